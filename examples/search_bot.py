@@ -1,16 +1,18 @@
 #!/usr/bin/env python3
-"""A bot that looks two turns ahead: serve it by `examples/search_bot.py [PORT]` (it needs aiohttp).
+"""A bot that plays random games: serve it by `examples/search_bot.py [PORT]` (it needs aiohttp and
+numpy).
 
-For each of its own two next moves it assumes the worst reply of the nearest rival; the other snakes
-go straight on. All 256 lines are played in one block of memory by two calls.
+For each of its four moves it plays GAMES games of DEPTH turns on, in which all snakes take random
+free steps, all at once in one block of memory (a flat Monte Carlo search). The move whose games go
+best is taken. Hazards are left out.
 """
 import sys
-from itertools import product
 from pathlib import Path
 
 ROOT = Path(__file__).resolve().parent.parent
 sys.path[:0] = [str(ROOT / "bindings/python"), str(ROOT / "ladder/bots")]
 try:
+    import numpy as np
     from arena_rules import Games, records
 except (ImportError, OSError) as fault:
     sys.exit(
@@ -18,57 +20,44 @@ except (ImportError, OSError) as fault:
     )
 
 WORDS = ("up", "down", "left", "right")
-STRAIGHT_ON, OUT = 4, -1000
-LINES = list(product(range(4), repeat=4))  # own move, rival's, own next, rival's next
+GAMES, DEPTH = 64, 16
 
 
-def distance(one, other):
-    return abs(one["x"] - other["x"]) + abs(one["y"] - other["y"])
+def copies(state, count):
+    """The board of a request, `count` times, without its hazards."""
+    board, mode = {**state["board"], "hazards": []}, state["game"]["ruleset"]["name"]
+    games = Games(
+        count,
+        width=board["width"],
+        height=board["height"],
+        seats=len(board["snakes"]),
+        mode="standard" if mode == "royale" else mode,
+    )
+    games.load(0, records.from_state({**state, "board": board}))
+    games.states[1:] = games.states[0]
+    return games
 
 
-def rival_of(snakes, me):
-    """The seat of the nearest other head; the own one if there is none."""
-    others = [seat for seat in range(len(snakes)) if seat != me]
-    head = snakes[me]["body"][0]
-    return min(others, key=lambda seat: distance(snakes[seat]["body"][0], head), default=me)
+def worth(games, me, turn):
+    """What each game's end is worth to a seat: to live, to live long, to be long, and few others."""
+    alive = games.alive[:, me]
+    lived = np.where(alive, DEPTH, games.states["head"]["seats"]["out"][:, me] - turn)
+    others = games.alive.sum(axis=1) - alive
+    return 4.0 * alive + lived / DEPTH + 0.05 * games.lengths[:, me] - others
 
 
-def orders(seats, me, rival, turn):
-    """A byte for each seat of each line."""
-    moves = bytearray([STRAIGHT_ON]) * (seats * len(LINES))
-    for number, line in enumerate(LINES):
-        moves[seats * number + rival] = line[2 * turn + 1]
-        moves[seats * number + me] = line[2 * turn]
-    return moves
-
-
-def value(game, me):
-    """What a board is worth: to live, to be long, to have room, to be near food when hungry."""
-    seat, row = game.head.seats[me], len(game.bodies) // 8
-    if seat.cause:
-        return OUT
-    at = game.bodies[row * me]
-    y, x = divmod(at, 32)
-    food = [abs(cell % 32 - x) + abs(cell // 32 - y) for cell in game.food[: game.head.foods]]
-    room = sum(game.plane[at + step] & 127 == 0 for step in (1, -1, 32, -32))
-    return 4 * seat.parts + room - min(food, default=0) - 3 * game.head.living
-
-
-def choose(state):
-    """The direction whose worst outcome is best."""
-    board, you = state["board"], state["you"]["id"]
-    snakes, width, height = board["snakes"], board["width"], board["height"]
-    me = [snake["id"] for snake in snakes].index(you)
-    rival = rival_of(snakes, me)
-    games = Games(len(LINES), width=width, height=height, seats=len(snakes))
-    games.load(0, records.from_state({**state, "board": {**board, "hazards": []}}))
-    for number in range(1, len(LINES)):
-        games.memory[number] = games.memory[0]
-    for turn in range(2):
-        games.step(orders(len(snakes), me, rival, turn))
-    values = dict(zip(LINES, (value(game, me) for game in games.memory)))
-    next_ = lambda m, r: max(min(values[m, r, n, s] for s in range(4)) for n in range(4))
-    return WORDS[max(range(4), key=lambda m: min(next_(m, r) for r in range(4)))]
+def choose(state, rng=np.random.default_rng()):
+    """The direction whose random games are worth most on average."""
+    me = [snake["id"] for snake in state["board"]["snakes"]].index(state["you"]["id"])
+    games = copies(state, 4 * GAMES)
+    for depth in range(DEPTH):
+        free = games.free_steps()
+        moves = (rng.random(free.shape) + free).argmax(axis=2)
+        if depth == 0:
+            moves[:, me] = np.repeat(np.arange(4), GAMES)
+        games.step(moves)
+    values = worth(games, me, state["turn"]).reshape(4, GAMES).mean(axis=1)
+    return WORDS[int(values.argmax())]
 
 
 if __name__ == "__main__":

@@ -2,13 +2,14 @@
 
 from __future__ import annotations
 
+from ctypes import byref
 from typing import Any
 
 import numpy as np
 
-from arena_rules.buffers import Lent, number
+from arena_rules.buffers import NOTHING, Lent, number
 from arena_rules.games import Games
-from arena_rules.library import SEATS
+from arena_rules.library import SEATS, ManyOrders, ManyStarts, library
 from arena_rules.starts import check_seats, layouts
 
 LAST_TURN = 10_000
@@ -20,12 +21,85 @@ def lent(array: np.ndarray) -> Lent:
     return Lent(array, array.__array_interface__["data"][0], array.size)
 
 
+class OnePass:
+    """A turn of all games, starts of some and all planes, over buffers that stay where they are.
+
+    It is one call of the library for each range of games, where the library has that call.
+    """
+
+    def __init__(
+        self,
+        games: Games,
+        moves: np.ndarray,
+        words: np.ndarray,
+        firsts: tuple[np.ndarray, np.ndarray, np.ndarray],
+    ) -> None:
+        self.games, self.lists = games, (moves, words, *firsts)
+        self._lent = [lent(it) for it in self.lists]
+        self._each = (1 + games.seats) * games.height * games.width
+        self._call = getattr(library, games._prefix + "advance", None)
+        self._orders, self._firsts = [], []
+        for low, count in games._ranges:
+            self._orders.append(self._orders_of(low, count))
+            self._firsts.append(self._firsts_of(low, count))
+
+    def _orders_of(self, low: int, count: int) -> ManyOrders:
+        moves, words = self._lent[:2]
+        seats, drawn = self.games.seats, self.lists[1].shape[1]
+        return ManyOrders(
+            moves.at + low * seats,
+            count * seats,
+            seats,
+            words.at + 4 * low * drawn,
+            count * drawn,
+            drawn,
+        )
+
+    def _firsts_of(self, low: int, count: int) -> ManyStarts:
+        starts, food, which = self._lent[2:]
+        seats, foods = self.games.seats, self.lists[3].shape[1]
+        return ManyStarts(
+            starts.at + 2 * low * seats,
+            count * seats,
+            food.at + 2 * low * foods,
+            count * foods,
+            foods,
+            which.at + low,
+            count,
+            self.games.settings,
+        )
+
+    def run(self, planes: np.ndarray | None) -> None:
+        """Plays, starts and shows; no planes are written if there is no place for them."""
+        if self._call is None:
+            self._run_by_steps(planes)
+            return
+        at, size = (NOTHING.at, 0) if planes is None else (planes.__array_interface__["data"][0], 1)
+        games, each = self.games, self._each
+
+        def one(low: int, count: int) -> None:
+            number = games._ranges.index((low, count))
+            orders, firsts = byref(self._orders[number]), byref(self._firsts[number])
+            room = count * each * size
+            self._call(games._at(low), count, orders, firsts, at + low * each * size, room, each)
+
+        games._each(one)
+
+    def _run_by_steps(self, planes: np.ndarray | None) -> None:
+        moves, words, starts, food, which = self.lists
+        self.games._play(self._lent[0], self._lent[1], words.shape[1])
+        if which.any():
+            self.games.start(starts, food, which)
+        if planes is not None:
+            self.games._show(planes.__array_interface__["data"][0], self._each)
+
+
 class Core:
     """Games that begin anew when they have ended.
 
     All that is drawn comes from one generator: after it is set, LAYOUTS first boards; whenever
     games begin, the number of a layout for each of them, `integers(0, LAYOUTS, games)`; in each
-    turn the words of the food, `integers(0, 2**32, (count, words), uint32)`.
+    turn the words of the food, `integers(0, 2**32, (count, words), uint32)`, before these.
     """
 
     def __init__(self, count: int, words: int, settings: dict[str, Any]) -> None:
@@ -34,9 +108,11 @@ class Core:
         check_seats(games.width, games.height, games.seats)
         self.words = number("words", words, 0, MOST_WORDS)
         self.moves = np.zeros((self.count, self.seats), "u1")
-        self._moves_lent = lent(self.moves)
+        self._words = np.zeros((self.count, self.words), np.uint32)
+        self._which = np.zeros(self.count, bool)
         self.rng: np.random.Generator | None = None
         self._layouts: tuple[np.ndarray, np.ndarray] | None = None
+        self._plane_bytes = (1 + self.seats) * games.height * games.width
         self._lay_out_heads()
 
     def _lay_out_heads(self) -> None:
@@ -58,18 +134,26 @@ class Core:
         starts, food = self._layouts
         self._starts = np.zeros((self.count, *starts.shape[1:]), "u1")
         self._food = np.zeros((self.count, *food.shape[1:]), "u1")
+        self._pass = OnePass(
+            games, self.moves, self._words, (self._starts, self._food, self._which)
+        )
 
-    def begin(self, which: np.ndarray) -> None:
-        """Begins the marked games anew."""
+    def _draw_starts(self, which: np.ndarray) -> None:
+        """Draws first boards for the marked games."""
         assert self.rng is not None and self._layouts is not None
         rows = np.flatnonzero(which)
         starts, food = self._layouts
         drawn = self.rng.integers(0, len(starts), len(rows))
         self._starts[rows], self._food[rows] = starts[drawn], food[drawn]
-        self.games.start(self._starts, self._food, which)
 
-    def play(self, actions: Any, shape: tuple[int, ...]) -> None:
-        """A turn of all games, by actions of this shape: 0 to 3 for up, down, left and right."""
+    def begin(self) -> None:
+        """Begins all games anew."""
+        self._draw_starts(np.ones(self.count, bool))
+        self.games.start(self._starts, self._food)
+        self.look()
+
+    def take(self, actions: Any, shape: tuple[int, ...]) -> None:
+        """Takes actions of this shape as the moves: 0 to 3 for up, down, left and right."""
         given = np.asarray(actions)
         if given.dtype.kind not in "iu":
             raise TypeError(f"actions are of the type {given.dtype}, and may be whole numbers")
@@ -78,20 +162,34 @@ class Core:
         if (given & ~3).any():
             raise ValueError(f"actions are {given.min()} to {given.max()}, and may be 0 to 3")
         np.copyto(self.moves, given.reshape(self.moves.shape), casting="unsafe")
-        self.turn()
 
-    def turn(self) -> None:
-        """A turn of all games, by `moves`."""
+    def turn(self, planes: np.ndarray | None) -> np.ndarray:
+        """A turn of all games by `moves`, and new games where one had ended, which are returned.
+
+        Writes the planes of all, (count, 1 + seats, height, width).
+        """
         assert self.rng is not None
-        words = self.rng.integers(0, 1 << 32, (self.count, self.words), np.uint32)
-        self.games._play(self._moves_lent, lent(words), self.words)
+        self._words[:] = self.rng.integers(0, 1 << 32, self._words.shape, np.uint32)
+        done = np.logical_or(self.over, self.cut)
+        if done.any():
+            self._draw_starts(done)
+        self._which[:] = done
+        self._pass.run(planes)
+        self.look()
+        return done
 
     def look(self) -> None:
         """Reads the state of all games."""
         np.copyto(self._heads, self._from)
         self.alive = self._seats["cause"] == 0
         self.over = self._over != 0
-        self.cut = (self._turn >= LAST_TURN) & ~self.over
+        self.cut = self._turn >= LAST_TURN
+        if self.cut.any():
+            self.cut &= ~self.over
+
+    def seat_view(self, name: str) -> np.ndarray:
+        """A number of each seat, as it was looked at: a view (count, seats)."""
+        return self._seats[name]
 
     def seat_numbers(self, name: str) -> np.ndarray:
         """A number of each seat, as it was looked at: a copy (count, seats)."""
@@ -103,7 +201,7 @@ class Core:
 
     def show(self, into: np.ndarray) -> None:
         """Writes the planes of all games into an array (count, 1 + seats, height, width)."""
-        self.games._show(into.__array_interface__["data"][0], into[0].size)
+        self.games._show(into.__array_interface__["data"][0], self._plane_bytes)
 
     def infos(self) -> dict[str, np.ndarray]:
         """Who lives, and why who died, by game and seat; the turn of each game."""

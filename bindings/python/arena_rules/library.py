@@ -217,7 +217,9 @@ _GAME_CALLS: dict[str, Any] = {
     "body": ([c_void_p, c_size_t, *_LIST], c_size_t),
     "save": ([c_void_p, *_LIST], c_size_t),
     "load": ([c_void_p, *_LIST], c_uint8),
+    "advance": ([*_LIST, c_void_p, c_void_p, *_LIST, c_size_t], c_size_t),
 }
+_MAY_LACK = ("advance",)
 
 
 def _open() -> ctypes.CDLL:
@@ -228,6 +230,8 @@ def _open() -> ctypes.CDLL:
     for size in ("small", "large"):
         calls.update((f"arena_{size}_{name}", call) for name, call in _GAME_CALLS.items())
     for name, (arguments, result) in calls.items():
+        if name.endswith(_MAY_LACK) and not hasattr(library, name):
+            continue
         call = getattr(library, name)
         call.argtypes, call.restype = arguments, result
     return library

@@ -89,8 +89,8 @@ class ParallelEnv(ParallelBase):  # type: ignore[misc]
         if seed is not None or self.core.rng is None:
             self.np_random, self.np_random_seed = generator(seed)
             self.core.seed(self.np_random)
-        self.core.begin(np.ones(1, bool))
-        self.core.look()
+        self.core.begin()
+        self.core.show(self._view.planes)
         self.agents = list(self.possible_agents)
         return self._observations(), self._infos()
 
@@ -118,8 +118,7 @@ class ParallelEnv(ParallelBase):  # type: ignore[misc]
         for seat, agent in self._seats():
             if agent in actions:
                 self.core.moves[0, seat] = number(f"the action of {agent}", actions[agent], 0, 3)
-        self.core.turn()
-        self.core.look()
+        self.core.turn(self._view.planes)
         return self._results()
 
     def _results(self) -> Answers:

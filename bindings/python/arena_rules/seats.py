@@ -33,12 +33,11 @@ class SeatView:
         self.shape = (core.count, core.seats, 1 + 3 * core.seats, games.height, games.width)
 
     def observed(self, into: np.ndarray | None = None) -> np.ndarray:
-        """The observations of all seats of all games, in the shape `shape`."""
+        """The observations of all seats of all games, in the shape `shape`, from `planes`."""
         core, seats = self.core, self.core.seats
         out = np.empty(self.shape, "u1") if into is None else into
-        core.show(self.planes)
-        health = core.seat_numbers("health") * core.alive
-        length = np.minimum(core.seat_numbers("parts"), 255).astype("u1") * core.alive
+        health = core.seat_view("health") * core.alive
+        length = np.minimum(core.seat_view("parts"), 255).astype("u1") * core.alive
         for seat, order in enumerate(self.order):
             mine = out[:, seat]
             np.take(self.planes, self._picks[seat], 1, out=mine[:, : 1 + seats], mode="clip")
@@ -98,6 +97,7 @@ class SeatEnv(Environments):
         """Starts every game. Returns observations and infos."""
         self._begin(seed, options)
         self._playing = self.core.alive.copy()
+        self.core.show(self._view.planes)
         return self._flat(self._view.observed(self._kept)), self._infos(~self._playing)
 
     def step(
@@ -105,7 +105,8 @@ class SeatEnv(Environments):
     ) -> tuple[np.ndarray, np.ndarray, np.ndarray, np.ndarray, dict[str, Any]]:
         """Plays a turn. Returns observations, rewards, terminations, truncations and infos."""
         core, before = self.core, self._playing
-        done = self._turn(actions, (self.num_envs,))[:, None]
+        self._take(actions, (self.num_envs,))
+        done = core.turn(self._view.planes)[:, None]
         alive, over = core.alive, core.over[:, None]
         before = before & ~done
         ended = before & (~alive | over)

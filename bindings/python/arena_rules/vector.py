@@ -44,20 +44,13 @@ class Environments(VectorBase):  # type: ignore[misc]
         if seed is not None or self.core.rng is not self.np_random:
             self.core.seed(self.np_random)
         self._first_seed, self._is_begun = None, True
-        self.core.begin(np.ones(self.core.count, bool))
-        self.core.look()
+        self.core.begin()
 
-    def _turn(self, actions: Any, shape: tuple[int, ...]) -> np.ndarray:
-        """Plays a turn, and begins the games anew that had ended before it; these are returned."""
+    def _take(self, actions: Any, shape: tuple[int, ...]) -> None:
+        """Takes the actions of the next turn."""
         if not self._is_begun:
             raise RuntimeError("there is no game yet: call reset")
-        core = self.core
-        done = core.over | core.cut
-        core.play(actions, shape)
-        if done.any():
-            core.begin(done)
-        core.look()
-        return done
+        self.core.take(actions, shape)
 
     def _frames(self) -> tuple[Any, ...] | None:
         """A frame for each game."""
@@ -104,23 +97,25 @@ class VectorEnv(Environments):
         self.single_action_space = MultiDiscrete([4] * self.seats)
         self.observation_space = batch_space(self.single_observation_space, self.num_envs)
         self.action_space = batch_space(self.single_action_space, self.num_envs)
-        shape = (self.num_envs, 1 + self.seats, games.height, games.width)
-        self._planes = np.zeros(shape, "u1")
+        self._shape = (self.num_envs, 1 + self.seats, games.height, games.width)
+        self._planes = np.zeros(0 if copy else self._shape, "u1")
         self._all = np.ones(self.num_envs, bool)
         self._all.flags.writeable = False
 
-    def _observed(self) -> dict[str, np.ndarray]:
-        core, planes = self.core, self._planes
-        if self._copy:
-            planes = np.empty_like(planes) if self._observe else np.zeros_like(planes)
-        if self._observe:
-            core.show(planes)
+    def _room(self) -> np.ndarray:
+        """Where the planes of a call are written."""
+        if not self._copy:
+            return self._planes
+        return np.empty(self._shape, "u1") if self._observe else np.zeros(self._shape, "u1")
+
+    def _observed(self, planes: np.ndarray) -> dict[str, np.ndarray]:
+        core = self.core
         alive = core.alive
         return {
             "planes": planes,
-            "health": core.seat_numbers("health") * alive,
-            "length": core.seat_numbers("parts") * alive,
-            "alive": alive.view("u1").copy(),
+            "health": core.seat_view("health") * alive,
+            "length": core.seat_view("parts") * alive,
+            "alive": alive.astype("u1"),
         }
 
     def reset(
@@ -128,17 +123,21 @@ class VectorEnv(Environments):
     ) -> tuple[dict[str, np.ndarray], dict[str, Any]]:
         """Starts every game. Returns observations and infos."""
         self._begin(seed, options)
-        return self._observed(), masked(self.core.infos(), self._all)
+        planes = self._room()
+        if self._observe:
+            self.core.show(planes)
+        return self._observed(planes), masked(self.core.infos(), self._all)
 
     def step(self, actions: Any) -> tuple[Any, np.ndarray, np.ndarray, np.ndarray, dict[str, Any]]:
         """Plays a turn. Returns observations, rewards, terminations, truncations and infos."""
         core = self.core
-        before = core.alive if self._is_begun else None
-        done = self._turn(actions, (self.num_envs, self.seats))
-        rewards = (core.over[:, None] & core.alive).astype("f8")
-        rewards -= before & ~core.alive & ~done[:, None]
+        self._take(actions, (self.num_envs, self.seats))
+        before, planes = core.alive, self._room()
+        core.turn(planes if self._observe else None)
+        last = core.over[:, None] & core.alive
+        rewards = np.subtract(last, before > core.alive, dtype="f8")
         infos = masked(core.infos(), self._all)
-        return self._observed(), rewards, core.over.copy(), core.cut.copy(), infos
+        return self._observed(planes), rewards, core.over.copy(), core.cut.copy(), infos
 
     def render(self) -> tuple[Any, ...] | None:
         """A frame for each game: text or pictures, by `render_mode`; None without one."""

@@ -53,10 +53,13 @@ fn replay<G: Game>(input: &mut Input<'_>, settings: Settings, foods: usize, word
     .unwrap();
     let mut games = Games::<G>::new(1);
     let games = games.as_mut_slice();
-    assert_eq!(
-        start_games(games, settings, &starts, (&food, foods), &[1]),
-        1
-    );
+    assert_eq!(food.len(), foods);
+    let first_cells = Starts {
+        cells: &starts,
+        food: &food,
+        which: None,
+    };
+    assert_eq!(start_games(games, settings, &first_cells), Ok(1));
     assert_eq!((&record[..], &games[0].record()[..]), (first, first));
     for number in 0..turns {
         let (moves, words) = (input.take(settings.seats.into()), input.words(words));
@@ -65,11 +68,11 @@ fn replay<G: Game>(input: &mut Input<'_>, settings: Settings, foods: usize, word
         }
         assert_eq!(is_over(&record), Ok(false));
         record = turn(&record, moves, &words, Map::default()).unwrap();
-        step(games, moves, &words);
+        step(games, moves, &words).unwrap();
         let wanted = input.record();
         assert_eq!((&record[..], &games[0].record()[..]), (wanted, wanted));
     }
-    is_legal(&record).unwrap();
+    assert_eq!(is_legal(&record), Ok(true));
     turns
 }
 
@@ -81,6 +84,8 @@ fn main() {
     for _ in 0..games {
         let head = input.take(8);
         let [mode, width, height, seats, min_food, chance, foods, words] = head.try_into().unwrap();
+        let mode =
+            [Mode::Standard, Mode::Solo, Mode::Constrictor, Mode::Wrapped][usize::from(mode)];
         let settings = Settings {
             mode,
             width,

@@ -1,12 +1,13 @@
 //! Many games at once.
 
 use crate::raw::*;
-use crate::{answer, Fault};
+use crate::words::{answer, Fault};
 
 /// The two sizes of a game: [`SmallGame`] and [`LargeGame`].
 pub trait Game: Copy {
     /// A game that has not started: all bytes are 0.
     fn empty() -> Self;
+    /// All of the game but its cells.
     fn head(&self) -> &Head;
     #[doc(hidden)]
     fn raw_start(games: &mut [Self], starts: &RawStarts<'_>) -> usize;
@@ -108,6 +109,21 @@ game!(
 );
 
 /// Games of one size. A clone is a copy of all games.
+///
+/// ```
+/// use arena_rules::{start_games, step, Cell, Games, Settings, SmallGame, Starts};
+///
+/// let mut games = Games::<SmallGame>::new(2);
+/// let cells = [Cell { x: 1, y: 5 }, Cell { x: 9, y: 5 }].repeat(2);
+/// let settings = Settings { seats: 2, ..Settings::default() };
+/// let starts = Starts { cells: &cells, food: &[], which: None };
+/// assert_eq!(start_games(games.as_mut_slice(), settings, &starts)?, 2);
+/// step(games.as_mut_slice(), &[3, 2, 0, 0], &[])?;
+/// assert_eq!(games.as_slice()[1].head.turn, 1);
+/// // Three moves for four seats do not fit.
+/// assert!(step(games.as_mut_slice(), &[3, 2, 0], &[]).is_err());
+/// # Ok::<(), arena_rules::Fault>(())
+/// ```
 #[derive(Clone)]
 pub struct Games<G: Game> {
     games: Vec<G>,
@@ -121,6 +137,7 @@ impl<G: Game> Games<G> {
         }
     }
 
+    /// The games.
     pub fn as_slice(&self) -> &[G] {
         &self.games
     }
@@ -131,40 +148,113 @@ impl<G: Game> Games<G> {
     }
 }
 
-/// Starts each game whose byte of `which` is not 0, and returns the number of those that started.
-/// `starts` has `settings.seats` cells for each game, `food` has `food_each`. A game whose settings
-/// or cells are not those of a first board is over, with no living snake.
+/// The first boards of games.
+#[derive(Clone, Copy)]
+pub struct Starts<'a> {
+    /// A starting cell for each seat of each game.
+    pub cells: &'a [Cell],
+    /// As many cells with food for each game.
+    pub food: &'a [Cell],
+    /// Whether each game is started; `None` starts all.
+    pub which: Option<&'a [bool]>,
+}
+
+/// Refuses a list whose length is not the one that fits.
+fn check(list: &'static str, is: usize, fits: usize) -> Result<(), Fault> {
+    if is == fits {
+        Ok(())
+    } else {
+        Err(Fault::Length { list, is, fits })
+    }
+}
+
+/// How many entries each game has of a list, which has as many for each.
+fn each_of(list: &'static str, is: usize, games: usize) -> Result<usize, Fault> {
+    let count = games.max(1);
+    if is % count == 0 {
+        Ok(is / count)
+    } else {
+        Err(Fault::Length {
+            list,
+            is,
+            fits: count,
+        })
+    }
+}
+
+/// Starts games, and returns the number of those that started.
+///
+/// A game whose settings or cells are not those of a first board is over, with no living snake.
+/// [`Fault::Length`] if a list does not fit the games and the seats.
 pub fn start<G: Game>(
     games: &mut [G],
     settings: Settings,
-    starts: &[Cell],
-    (food, food_each): (&[Cell], usize),
-    which: &[u8],
-) -> usize {
+    starts: &Starts<'_>,
+) -> Result<usize, Fault> {
+    let (count, seats) = (games.len(), usize::from(settings.seats));
+    check("cells", starts.cells.len(), count * seats)?;
+    let food_each = each_of("food", starts.food.len(), count)?;
+    let all: Vec<bool>;
+    let which = match starts.which {
+        Some(which) => which,
+        None => {
+            all = vec![true; count];
+            &all
+        }
+    };
+    check("which", which.len(), count)?;
+    // SAFETY: a bool is a byte, 0 or 1.
+    let which = unsafe { std::slice::from_raw_parts(which.as_ptr().cast::<u8>(), which.len()) };
     let raw = RawStarts(ManyStarts {
-        starts: List::new(starts),
-        food: List::new(food),
+        starts: List::new(starts.cells),
+        food: List::new(starts.food),
         food_each,
         which: List::new(which),
         settings,
     });
-    G::raw_start(games, &raw)
+    Ok(G::raw_start(games, &raw))
 }
 
-/// Plays a turn in each game that is not over and is below turn 10,000. `moves` and `words` have as
-/// many entries for each game; a direction is 0 to 3 for up, down, left, right, else straight on.
-pub fn step<G: Game>(games: &mut [G], moves: &[u8], words: &[u32]) {
-    let count = games.len().max(1);
+/// Plays a turn in each game that is not over and is below turn 10,000.
+///
+/// `moves` has a byte for each seat of each game, all of which have as many seats: 0 to 3 for up,
+/// down, left and right, else straight on. `words` has as many for each game; without them no food
+/// appears. [`Fault::Length`] if a list does not fit.
+pub fn step<G: Game>(games: &mut [G], moves: &[u8], words: &[u32]) -> Result<(), Fault> {
+    let count = games.len();
+    let seats = games.iter().map(|game| game.head().settings.seats).max();
+    let moves_each = usize::from(seats.unwrap_or(0));
+    check("moves", moves.len(), count * moves_each)?;
     let raw = RawOrders(ManyOrders {
         moves: List::new(moves),
-        moves_each: moves.len() / count,
+        moves_each,
         words: List::new(words),
-        words_each: words.len() / count,
+        words_each: each_of("words", words.len(), count)?,
     });
     G::raw_step(games, &raw);
+    Ok(())
 }
 
-/// Writes the planes of each game into its `each` bytes: food, then living snakes by their seats.
-pub fn planes<G: Game>(games: &[G], into: &mut [u8], each: usize) {
+/// Writes the planes of each game: food, then living snakes by their seats, row by row from the
+/// bottom.
+///
+/// `into` has as many bytes for each game, at least those of its food and seats.
+/// [`Fault::Length`] if it has fewer.
+pub fn planes<G: Game>(games: &[G], into: &mut [u8]) -> Result<(), Fault> {
+    let each = each_of("into", into.len(), games.len())?;
+    let bytes = |game: &G| {
+        let own = game.head().settings;
+        (1 + usize::from(own.seats)) * usize::from(own.width) * usize::from(own.height)
+    };
+    let most = games.iter().map(bytes).max().unwrap_or(0);
+    if each < most {
+        let fits = most * games.len();
+        return Err(Fault::Length {
+            list: "into",
+            is: into.len(),
+            fits,
+        });
+    }
     G::raw_planes(games, into, each);
+    Ok(())
 }

@@ -2,6 +2,7 @@
 
 use crate::games::Game;
 use crate::raw::*;
+use crate::words::Mode;
 use std::mem::size_of;
 
 /// The sizes of the structs, in the order in which `arena_layout` writes them.
@@ -38,7 +39,7 @@ fn numbered_seat(seat: u8) -> Seat {
 fn numbered_head() -> Head {
     Head {
         settings: Settings {
-            mode: 1,
+            mode: Mode::Solo,
             width: 2,
             height: 3,
             seats: 4,

@@ -1,59 +1,48 @@
 //! The rules of Battlesnake games, in this process. docs/SIMULATOR.md says what is proved of them.
 //!
-//! Calls on records ([`start`], [`turn`], [`is_over`], [`is_legal`]) are proved exact. [`Games`]
-//! plays many games at once; its calls are proved to be safe.
+//! Calls on records ([`start`], [`turn`], [`is_over`], [`is_legal`]) take bytes and return bytes.
+//! [`Games`] holds many games as plain structs, and one call plays a turn in all of them.
+//!
+//! ```
+//! use arena_rules::{is_over, start, turn, Cell, Direction, Map, Setup};
+//!
+//! let starts = [Cell { x: 1, y: 5 }, Cell { x: 9, y: 5 }];
+//! let first = start(&Setup { starts: &starts, ..Setup::default() })?;
+//! let moves = [Direction::Right as u8, Direction::Left as u8];
+//! let second = turn(&first, &moves, &[], Map::default())?;
+//! assert!(!is_over(&second)?);
+//! # Ok::<(), arena_rules::Fault>(())
+//! ```
+#![warn(missing_docs)]
 
 mod games;
 mod layout;
 mod raw;
 mod records;
+mod words;
 
-pub use games::{planes, start as start_games, step, Game, Games};
+pub use games::{planes, start as start_games, step, Game, Games, Starts};
 pub use layout::check_layout;
 pub use raw::{Cell, Head, LargeGame, Place, Seat, Settings, SmallGame};
-pub use records::{is_legal, is_over, start, turn, Map, Setup};
+pub use records::{is_legal, is_over, start, turn, turn_into, Map, Setup};
+pub use words::{Cause, Direction, Fault, Mode};
 
-/// Why a call has no answer.
-#[derive(Clone, Copy, Debug, PartialEq, Eq)]
-pub enum Fault {
-    /// The bytes are not the record of a legal board.
-    NotARecord,
-    /// The setup exceeds a limit.
-    NotASetup,
-    /// No turn follows turn 10,000.
-    LastTurn,
-    /// The board does not fit the game.
-    Room,
-    /// Out of memory.
-    Memory,
-    /// The board has hazards, which [`Games`] do not.
-    Hazards,
+/// The version of the library that is linked.
+pub fn version() -> &'static str {
+    // SAFETY: the library returns a constant text that ends in a zero.
+    unsafe { text(raw::arena_version()) }
 }
 
-impl std::fmt::Display for Fault {
-    fn fmt(&self, f: &mut std::fmt::Formatter<'_>) -> std::fmt::Result {
-        f.write_str(match self {
-            Fault::NotARecord => "not the record of a legal board",
-            Fault::NotASetup => "a setup that exceeds a limit",
-            Fault::LastTurn => "no turn follows turn 10,000",
-            Fault::Room => "no room",
-            Fault::Memory => "out of memory",
-            Fault::Hazards => "a board with hazards",
-        })
-    }
+/// What the library was built from: lines of version, commit, kit, and whether it is proved.
+pub fn built() -> &'static str {
+    // SAFETY: as above.
+    unsafe { text(raw::arena_built()) }
 }
 
-impl std::error::Error for Fault {}
-
-/// The answer of a status.
-fn answer(status: u8) -> Result<(), Fault> {
-    match status {
-        0 => Ok(()),
-        1 => Err(Fault::NotARecord),
-        2 => Err(Fault::NotASetup),
-        3 => Err(Fault::LastTurn),
-        4 => Err(Fault::Room),
-        6 => Err(Fault::Hazards),
-        _ => Err(Fault::Memory),
-    }
+/// # Safety
+/// The pointer is to a constant text that ends in a zero.
+unsafe fn text(at: *const std::ffi::c_char) -> &'static str {
+    // SAFETY: as the caller has it.
+    let bytes = unsafe { std::ffi::CStr::from_ptr(at) };
+    bytes.to_str().unwrap_or("")
 }
