@@ -4,7 +4,7 @@ numpy).
 
 For each of its four moves it plays GAMES games of DEPTH turns on, in which all snakes take random
 free steps, all at once in one block of memory (a flat Monte Carlo search). The move whose games go
-best is taken. Hazards are left out.
+best is taken; a move towards food counts more, the hungrier the snake is. Hazards are left out.
 """
 import sys
 from pathlib import Path
@@ -39,24 +39,33 @@ def copies(state, count):
 
 
 def worth(games, me, turn):
-    """What each game's end is worth to a seat: to live, to live long, to be long, and few others."""
+    """What each game's end is worth to a seat: to live, to live long, length, and few others."""
     alive = games.alive[:, me]
     lived = np.where(alive, DEPTH, games.states["head"]["seats"]["out"][:, me] - turn)
     others = games.alive.sum(axis=1) - alive
     return 4.0 * alive + lived / DEPTH + 0.05 * games.lengths[:, me] - others
 
 
+def pull(games, me):
+    """How far each head is from the nearest food, as a cost that grows with hunger."""
+    food = np.array(games.food(0) or games.heads[0, me][None])
+    away = np.abs(games.heads[:, me, None] - food).sum(axis=2).min(axis=1)
+    return away * (0.02 + 0.002 * np.maximum(0, 60 - games.health[0, me].astype(int)))
+
+
 def choose(state, rng=np.random.default_rng()):
     """The direction whose random games are worth most on average."""
     me = [snake["id"] for snake in state["board"]["snakes"]].index(state["you"]["id"])
-    games = copies(state, 4 * GAMES)
+    games, cost = copies(state, 4 * GAMES), np.zeros(4 * GAMES)
     for depth in range(DEPTH):
         free = games.free_steps()
         moves = (rng.random(free.shape) + free).argmax(axis=2)
         if depth == 0:
             moves[:, me] = np.repeat(np.arange(4), GAMES)
         games.step(moves)
-    values = worth(games, me, state["turn"]).reshape(4, GAMES).mean(axis=1)
+        if depth == 0:
+            cost = pull(games, me)
+    values = (worth(games, me, state["turn"]) - cost).reshape(4, GAMES).mean(axis=1)
     return WORDS[int(values.argmax())]
 
 

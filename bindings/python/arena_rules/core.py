@@ -37,8 +37,9 @@ class OnePass:
         self.games, self.lists = games, (moves, words, *firsts)
         self._lent = [lent(it) for it in self.lists]
         self._each = (1 + games.seats) * games.height * games.width
-        self._call = getattr(library, games._prefix + "advance", None)
-        self._orders, self._firsts = [], []
+        self._call: Any = getattr(library, games._prefix + "advance", None)
+        self._orders: list[ManyOrders] = []
+        self._firsts: list[ManyStarts] = []
         for low, count in games._ranges:
             self._orders.append(self._orders_of(low, count))
             self._firsts.append(self._firsts_of(low, count))

@@ -1,0 +1,63 @@
+"""The Debian packages of the library, for tools/package: libarena-dev and python3-arena-rules."""
+
+import gzip
+import re
+import subprocess
+import sys
+from pathlib import Path
+
+ROOT = Path(__file__).resolve().parent.parent
+TEXTS = Path(__file__).resolve().parent / "packaged"
+BUILT = ROOT / "out/bindings"
+PYTHON = ROOT / "bindings/python/arena_rules"
+LIB = "lib/x86_64-linux-gnu"
+NAMES = ("libarena-dev", "python3-arena-rules")
+STATE = {True: "proved", False: "UNPROVED: nothing of it was checked"}
+
+
+def make(is_proved):
+    """Builds the library, and checks that it is what it is said to be."""
+    words = [ROOT / "bindings/build", *([] if is_proved else ["--unproved"])]
+    if subprocess.run(words, stdout=sys.stderr).returncode != 0:
+        sys.exit("package: the library was not built")
+    found = re.search("^library: (.*)$", (BUILT / "BUILT").read_text(), re.M)
+    if found is None or found[1] != STATE[is_proved]:
+        sys.exit(f"package: the library is {found and found[1]}, not {STATE[is_proved]}")
+
+
+def config():
+    """The file for pkg-config, by the folders of the package."""
+    text = (BUILT / "arena.pc").read_text()
+    text = re.sub("^prefix=.*$", "prefix=/usr", text, flags=re.M)
+    text = re.sub("^libdir=.*$", f"libdir=${{prefix}}/{LIB}", text, flags=re.M)
+    return re.sub("^includedir=.*$", "includedir=${prefix}/include", text, flags=re.M)
+
+
+def common(tree, name, write):
+    """What each package says of itself."""
+    place = tree / "share/doc" / name
+    write(place / "BUILT", (BUILT / "BUILT").read_bytes())
+    write(place / "copyright", (TEXTS / "copyright").read_bytes())
+    write(place / "changelog.gz", gzip.compress((ROOT / "CHANGELOG.md").read_bytes(), mtime=0))
+    write(place / "SIMULATOR.md", (ROOT / "docs/SIMULATOR.md").read_bytes())
+
+
+def fill(tree, name, write):
+    """Fills a folder with what the package of that name has below /usr."""
+    common(tree, name, write)
+    if name == "libarena-dev":
+        write(tree / "include/arena.h", (ROOT / "bindings/c/arena.h").read_bytes())
+        for file in ("libarena.a", "libarena.so.1"):
+            write(tree / LIB / file, (BUILT / file).read_bytes())
+        (tree / LIB / "libarena.so").symlink_to("libarena.so.1")
+        write(tree / LIB / "pkgconfig/arena.pc", config())
+        return
+    to = tree / "lib/python3/dist-packages/arena_rules"
+    for path in [*sorted(PYTHON.glob("*.py")), PYTHON / "py.typed", PYTHON / "libarena_rules.so"]:
+        write(to / path.name, path.read_bytes())
+
+
+def control(name, version, is_proved):
+    """The package's control file; one that is not proved says so."""
+    text = (TEXTS / f"control.{name}").read_text().replace("VERSION", version)
+    return text if is_proved else text.replace(", PROVED", ", UNPROVED: nothing of it was checked")
