@@ -1,16 +1,16 @@
 #!/usr/bin/env python3
-"""Times the library beside a simulator by hand and plain Python, on 500 drawn games of four snakes
-on 11 by 11 cells.
+"""Times the library from C, Rust and Python, beside a simulator by hand and plain Python, on 500
+drawn games of four snakes on 11 by 11 cells.
 
-    benches/library.py [--games N] [--runs R] [--seconds S]
+    benches/library.py [--games N] [--runs R] [--seconds S] [--only PART..]
 
-It needs gcc, and bindings/build to have been run; the vector environment needs numpy. The rates are
-of processor time, the least of R runs; those of several threads are of wall time, S seconds each.
+PART is c, rust, python or environments. It needs gcc, for Rust cargo, for Python numpy, and
+bindings/build to have been run. The times are of the processor (those of Rust and of several
+threads of wall time, S seconds each), the least of R runs.
 """
 import argparse
 import random
 import subprocess
-import sys
 import tempfile
 import time
 from array import array
@@ -20,6 +20,7 @@ import library_games
 from simulators import plain
 
 SIMULATORS = ROOT / "benches/simulators"
+BUILT = ROOT / "out/bindings/BUILT"
 SPOTS = [(1, 1), (1, 9), (9, 1), (9, 9), (1, 5), (5, 1), (5, 9), (9, 5)]
 MOST_TURNS = 400
 
@@ -58,21 +59,124 @@ def say(what, each):
     print(f"{what:<34} {each * 1e9:7.1f} ns a turn, {1e-6 / each:6.2f} M a second", flush=True)
 
 
-def time_env(count, runs, observe, threads=1):
-    """Seconds of a game's turn: of processor time, with several threads of wall time."""
+def least(call, turns, runs):
+    """Seconds of processor time a turn, the least of the runs; `call` plays `turns`."""
+    best = 1e9
+    for _ in range(runs):
+        from_ = time.process_time()
+        call()
+        best = min(best, time.process_time() - from_)
+    return best / turns
+
+
+def side_by_side(games, runs):
+    """All games at once, from Python."""
     import numpy as np
-    from arena_rules import VectorEnv
+
+    games = sorted(games, key=lambda game: -len(game.turns))
+    rules, turns = library_games.one_game(games[0].setup), sum(len(it.turns) for it in games)
+    rules = type(rules)(len(games), seats=4)
+    starts = np.array([it.setup["starts"] for it in games], "u1")
+    food = np.array([it.setup["food"] for it in games], "u1")
+    orders = []
+    for turn in range(len(games[0].turns)):
+        alive = [it.turns[turn] for it in games if len(it.turns) > turn]
+        moves, words = np.zeros((len(games), 4), "u1"), np.zeros((len(games), 2), np.uint32)
+        for at, it in enumerate(alive):
+            moves[at], words[at] = list(it.moves), it.words
+        orders.append((moves, words))
+
+    def play():
+        rules.start(starts, food)
+        for moves, words in orders:
+            rules.step(moves, words)
+
+    return least(play, turns, runs)
+
+
+def one_after_the_other(games, runs):
+    """One game at a time, and one record at a time, from Python."""
+    import numpy as np
+    from arena_rules import records
+
+    rules = [library_games.one_game(it.setup) for it in games]
+    orders = [
+        [(np.frombuffer(it.moves, "u1"), np.array(it.words, np.uint32)) for it in game.turns]
+        for game in games
+    ]
+    firsts, turns = [it.copy() for it in rules], sum(len(it.turns) for it in games)
+
+    def play():
+        for one, first, each in zip(rules, firsts, orders):
+            one.memory[0] = first.memory[0]
+            for moves, words in each:
+                one.step(moves, words)
+
+    def play_records():
+        for game in games:
+            record = game.first
+            for it in game.turns:
+                record = records.turn(record, it.moves, it.words)
+
+    return least(play, turns, runs), least(play_records, turns, runs)
+
+
+def time_env(kind, count, runs, threads=1, **more):
+    """Seconds of a game's turn: of processor time, with several threads of wall time."""
+    import arena_rules
+    import numpy as np
 
     clock = time.process_time if threads == 1 else time.perf_counter
-    env = VectorEnv(count, seed=1, observe=observe, threads=threads)
+    env = getattr(arena_rules, kind)(count, seed=1, threads=threads, **more)
     env.reset()
-    rng, least = np.random.Generator(np.random.SFC64(2)), 1e9
+    rng, best = np.random.Generator(np.random.SFC64(2)), 1e9
+    turns = max(5, min(400, 40_000 // count))
+    actions = rng.integers(0, 4, (turns, *env.action_space.shape))
     for _ in range(runs):
         from_ = clock()
-        for _ in range(20):
-            env.step(rng.integers(0, 4, (count, 4), "u1"))
-        least = min(least, clock() - from_)
-    return least / 20 / count
+        for it in actions:
+            env.step(it)
+        best = min(best, clock() - from_)
+    return best / turns / count
+
+
+def time_rust(file, runs):
+    """What the Rust crate takes, by the name of the kind of call."""
+    crate = ROOT / "bindings/rust"
+    build = ["cargo", "build", "--offline", "--release", "--quiet", "--example", "bench"]
+    subprocess.run(build, cwd=crate, check=True)
+    program = crate / "target/release/examples/bench"
+    said = subprocess.run([program, file, str(runs)], check=True, capture_output=True, text=True)
+    for line in said.stdout.splitlines():
+        name, each = line.split("\t")
+        say(f"Rust: {name}", float(each))
+
+
+def time_c(file, folder, given):
+    """What C and the simulator by hand take."""
+    here, library = SIMULATORS, ROOT / "out/bindings/libarena.a"
+    build = ["gcc", "-O3", "-march=x86-64-v2", f"-I{ROOT}/bindings/c", "-o", f"{folder}/bench"]
+    subprocess.run([*build, here / "bench.c", library, "-lpthread"], check=True)
+    bench = [f"{folder}/bench", file, str(given.runs), str(given.seconds)]
+    subprocess.run(bench, check=True)
+
+
+def time_python(games, runs):
+    """What Python takes."""
+    say("Python: all games side by side", side_by_side(games, runs))
+    one, record = one_after_the_other(games[:100], runs)
+    say("Python: one game", one)
+    say("Python: one record", record)
+    say("plain Python", time_plain(games[:100]))
+
+
+def time_environments(runs):
+    """What a step of the environments takes, for each of their games."""
+    for kind in ("VectorEnv", "SeatEnv"):
+        for count in (1, 64, 1024, 4096):
+            say(f"{kind} of {count:,} games", time_env(kind, count, runs))
+    say("VectorEnv of 1,024, no planes", time_env("VectorEnv", 1024, runs, observe=False))
+    say("VectorEnv of 16,384, 4 threads", time_env("VectorEnv", 16384, runs, 4))
 
 
 def main():
@@ -82,22 +186,22 @@ def main():
     words.add_argument("--games", type=int, default=500)
     words.add_argument("--runs", type=int, default=20)
     words.add_argument("--seconds", type=float, default=1.0)
+    parts = ("c", "rust", "python", "environments")
+    words.add_argument("--only", metavar="PART", nargs="+", choices=parts, default=parts)
     given = words.parse_args()
     games = [drawn_game(number) for number in range(given.games)]
+    print("the library:", BUILT.read_text().splitlines()[-1].removeprefix("library: "))
     with tempfile.TemporaryDirectory() as folder:
-        library_games.write(games, f"{folder}/games")
-        here, library = SIMULATORS, ROOT / "out/bindings/libarena.a"
-        build = ["gcc", "-O3", "-march=x86-64-v2", f"-I{ROOT}/bindings/c", "-o", f"{folder}/bench"]
-        subprocess.run([*build, here / "bench.c", library, "-lpthread"], check=True)
-        bench = [f"{folder}/bench", f"{folder}/games", str(given.runs), str(given.seconds)]
-        subprocess.run(bench, check=True)
-    say("plain Python", time_plain(games[:100]))
-    try:
-        say("VectorEnv, random agents, planes", time_env(2048, given.runs, True))
-        say("VectorEnv, random agents", time_env(2048, given.runs, False))
-        say("VectorEnv, 4 threads, wall time", time_env(16384, given.runs, False, 4))
-    except ImportError:
-        print(f"{sys.executable} has no numpy")
+        file = f"{folder}/games"
+        library_games.write(games, file)
+        if "c" in given.only:
+            time_c(file, folder, given)
+        if "rust" in given.only:
+            time_rust(file, given.runs)
+    if "python" in given.only:
+        time_python(games, given.runs)
+    if "environments" in given.only:
+        time_environments(given.runs)
 
 
 if __name__ == "__main__":

@@ -4,7 +4,8 @@ numpy).
 
 For each of its four moves it plays GAMES games of DEPTH turns on, in which all snakes take random
 free steps, all at once in one block of memory (a flat Monte Carlo search). The move whose games go
-best is taken; a move towards food counts more, the hungrier the snake is. Hazards are left out.
+best is taken. To be out at once counts twice, and food the more, the hungrier the snake is. Hazards
+are left out.
 """
 import sys
 from pathlib import Path
@@ -46,11 +47,12 @@ def worth(games, me, turn):
     return 4.0 * alive + lived / DEPTH + 0.05 * games.lengths[:, me] - others
 
 
-def pull(games, me):
-    """How far each head is from the nearest food, as a cost that grows with hunger."""
+def risk(games, me):
+    """What the first turn costs: to be out at once, and to be far from food when hungry."""
     food = np.array(games.food(0) or games.heads[0, me][None])
     away = np.abs(games.heads[:, me, None] - food).sum(axis=2).min(axis=1)
-    return away * (0.02 + 0.002 * np.maximum(0, 60 - games.health[0, me].astype(int)))
+    hunger = 0.02 + 0.002 * np.maximum(0, 60 - games.health[0, me].astype(int))
+    return away * hunger + 4.0 * ~games.alive[:, me]
 
 
 def choose(state, rng=np.random.default_rng()):
@@ -64,7 +66,7 @@ def choose(state, rng=np.random.default_rng()):
             moves[:, me] = np.repeat(np.arange(4), GAMES)
         games.step(moves)
         if depth == 0:
-            cost = pull(games, me)
+            cost = risk(games, me)
     values = (worth(games, me, state["turn"]) - cost).reshape(4, GAMES).mean(axis=1)
     return WORDS[int(values.argmax())]
 

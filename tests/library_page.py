@@ -1,13 +1,20 @@
-"""The programs of docs/SIMULATOR.md, for tests/library."""
+"""The programs of docs/SIMULATOR.md, for tests/library.
+
+    library_page.py PAGE
+
+runs those in C and Python of the page with what is installed, for tests/package.
+"""
 
 import re
 import subprocess
 import sys
+import tempfile
 from pathlib import Path
 
 ROOT = Path(__file__).resolve().parent.parent
 PAGE = ROOT / "docs/SIMULATOR.md"
 FENCE = re.compile(r"^```(\w+)\n(.*?)^```$", re.M | re.S)
+SAYS = "It prints:"
 
 
 def ran(*words, **more):
@@ -18,9 +25,17 @@ def ran(*words, **more):
     return done.stdout
 
 
-def blocks(language):
-    """The programs of the page in that language."""
-    return [text for word, text in FENCE.findall(PAGE.read_text()) if word == language]
+def blocks(language, page=PAGE):
+    """The programs of the page in that language, each with what the page says that it prints."""
+    found = FENCE.findall(page.read_text())
+    pairs = zip(found, found[1:])
+    return [(text, said) for (word, text), (next_, said) in pairs if word == language]
+
+
+def has_all_outputs():
+    """Whether each program is followed by a block of what it prints."""
+    found = [word for word, _ in FENCE.findall(PAGE.read_text())]
+    return found[1::2] == ["text"] * (len(found) // 2) and "text" not in found[::2]
 
 
 def has_numpy():
@@ -31,16 +46,27 @@ def has_numpy():
 
 def check_python(folder):
     """Runs each; those that need numpy only where it is."""
-    for number, text in enumerate(blocks("python")):
-        if "VectorEnv" in text and not has_numpy():
+    for number, (text, wanted) in enumerate(blocks("python")):
+        if "numpy" in text and not has_numpy():
             continue
         script = folder / f"page_{number}.py"
         script.write_text(text)
-        ran = subprocess.run(
-            [sys.executable, script],
-            capture_output=True,
-            text=True,
-            env={"PYTHONPATH": str(ROOT / "bindings/python"), "PATH": "/usr/bin:/bin"},
-        )
-        assert ran.returncode == 0, ran.stderr
-        assert "turn" in ran.stdout
+        path = {"PYTHONPATH": str(ROOT / "bindings/python"), "PATH": "/usr/bin:/bin"}
+        assert ran(sys.executable, script, env=path) == wanted
+
+
+def check_installed(page, folder):
+    """Runs the programs of a page by the library and the module that are installed."""
+    flags = ran("pkg-config", "--cflags", "--libs", "arena").split()
+    for text, wanted in blocks("c", page):
+        (folder / "page.c").write_text(text)
+        ran("gcc", "-Wall", "-Werror", "-o", folder / "page", folder / "page.c", *flags)
+        assert ran(folder / "page") == wanted
+    for text, wanted in blocks("python", page):
+        assert ran(sys.executable, "-c", text) == wanted
+    print(f"library: the programs in C and Python of {page.name} print what it says")
+
+
+if __name__ == "__main__":
+    with tempfile.TemporaryDirectory() as room:
+        check_installed(Path(sys.argv[1]), Path(room))

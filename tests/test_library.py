@@ -166,20 +166,25 @@ class TestLayout:
 
 
 class TestPage:
-    """The programs of docs/SIMULATOR.md."""
+    """The programs of docs/SIMULATOR.md, and what it says that they print."""
+
+    def test_each_has_its_output(self):
+        assert library_page.has_all_outputs()
+        counts = [len(library_page.blocks(it)) for it in ("c", "rust", "python")]
+        assert counts == [1, 1, 3]
 
     def test_c(self, tmp_path):
-        for number, text in enumerate(library_page.blocks("c")):
+        for number, (text, wanted) in enumerate(library_page.blocks("c")):
             source = tmp_path / f"page_{number}.c"
             source.write_text(text)
-            assert "turns" in ran(compiled(source, tmp_path))
+            assert ran(compiled(source, tmp_path)) == wanted
 
     @with_cargo
     def test_rust(self):
-        for number, text in enumerate(library_page.blocks("rust")):
+        for number, (text, wanted) in enumerate(library_page.blocks("rust")):
             source = ROOT / f"bindings/rust/examples/page_{number}.rs"
             assert source.read_text() == text, f"the page and {source} differ"
-            assert "turns" in cargo_run(f"page_{number}")
+            assert cargo_run(f"page_{number}") == wanted
 
     def test_python(self, tmp_path):
         library_page.check_python(tmp_path)

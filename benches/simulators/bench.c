@@ -139,6 +139,27 @@ static double time_small(int runs, uint32_t turns) {
     return least / turns;
 }
 
+// One game after the other, a call for each turn of a game.
+static double time_alone(int runs, uint32_t turns) {
+    arena_small_game *small = calloc(count, sizeof *small);
+    double least = 1e9;
+    for (int run = 0; run < runs; run++) {
+        for (uint32_t i = 0; i < count; i++) start_small(small + i, i);
+        double from = seconds(CLOCK_THREAD_CPUTIME_ID);
+        for (uint32_t i = 0; i < count; i++)
+            for (uint32_t turn = 0; turn < games[i].turns; turn++) {
+                arena_many_orders orders =
+                    arena_orders_of(1, games[i].moves[turn], 4, games[i].words[turn], 2);
+                arena_small_step(small + i, 1, &orders);
+            }
+        double took = seconds(CLOCK_THREAD_CPUTIME_ID) - from;
+        if (took < least) least = took;
+        check_small(small);
+    }
+    free(small);
+    return least / turns;
+}
+
 static void start_by_hand(game *to, uint32_t number) {
     xy starts[4], food[16];
     memcpy(starts, games[number].starts, 8);
@@ -269,9 +290,10 @@ int main(int argc, char **argv) {
     spread();
     int runs = atoi(argv[2]);
     printf("%u games, %u turns\n", count, turns);
-    say("calls on games, side by side", time_small(runs, turns));
-    say("by hand, side by side", time_by_hand(runs, turns));
-    say("calls on records", time_records(runs, turns));
+    say("C: all games side by side", time_small(runs, turns));
+    say("C: one game", time_alone(runs, turns));
+    say("C: one record", time_records(runs, turns));
+    say("by hand in C, side by side", time_by_hand(runs, turns));
     for (int threads = 1; threads <= 4; threads *= 2)
         printf("%d threads: %.2f M turns a second of wall time, with new games and copied moves\n",
                threads, threads_rate(threads, atof(argv[3])) * 1e-6);
