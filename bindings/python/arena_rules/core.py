@@ -14,6 +14,7 @@ from arena_rules.starts import check_seats, layouts
 
 LAST_TURN = 10_000
 MOST_WORDS = 32
+INFOS = ("alive", "cause", "killer", "turn")
 
 
 def lent(array: np.ndarray) -> Lent:
@@ -38,11 +39,12 @@ class OnePass:
         self._lent = [lent(it) for it in self.lists]
         self._each = (1 + games.seats) * games.height * games.width
         self._call: Any = getattr(library, games._prefix + "advance", None)
-        self._orders: list[ManyOrders] = []
-        self._firsts: list[ManyStarts] = []
-        for low, count in games._ranges:
-            self._orders.append(self._orders_of(low, count))
-            self._firsts.append(self._firsts_of(low, count))
+        self._whole = self._range(0, games.count)
+        self._ranges = {low: self._range(low, count) for low, count in games._ranges}
+
+    def _range(self, low: int, count: int) -> tuple[Any, Any]:
+        """The orders and the starts of a range of games, as a call takes them."""
+        return byref(self._orders_of(low, count)), byref(self._firsts_of(low, count))
 
     def _orders_of(self, low: int, count: int) -> ManyOrders:
         moves, words = self._lent[:2]
@@ -75,21 +77,25 @@ class OnePass:
         if self._call is None:
             self._run_by_steps(planes)
             return
-        at, size = (NOTHING.at, 0) if planes is None else (planes.__array_interface__["data"][0], 1)
         games, each = self.games, self._each
+        at, size = NOTHING.at, 0
+        if planes is not None:
+            at, size = planes.__array_interface__["data"][0], each
+        if games._pool is None:
+            orders, firsts = self._whole
+            self._call(games._address, games.count, orders, firsts, at, games.count * size, each)
+            return
 
         def one(low: int, count: int) -> None:
-            number = games._ranges.index((low, count))
-            orders, firsts = byref(self._orders[number]), byref(self._firsts[number])
-            room = count * each * size
-            self._call(games._at(low), count, orders, firsts, at + low * each * size, room, each)
+            orders, firsts = self._ranges[low]
+            self._call(games._at(low), count, orders, firsts, at + low * size, count * size, each)
 
         games._each(one)
 
     def _run_by_steps(self, planes: np.ndarray | None) -> None:
         moves, words, starts, food, which = self.lists
         self.games._play(self._lent[0], self._lent[1], words.shape[1])
-        if which.any():
+        if np.count_nonzero(which):
             self.games.start(starts, food, which)
         if planes is not None:
             self.games._show(planes.__array_interface__["data"][0], self._each)
@@ -160,7 +166,7 @@ class Core:
             raise TypeError(f"actions are of the type {given.dtype}, and may be whole numbers")
         if given.shape != shape:
             raise ValueError(f"actions have the shape {given.shape}, and may have {shape}")
-        if (given & ~3).any():
+        if np.count_nonzero(given & ~3):
             raise ValueError(f"actions are {given.min()} to {given.max()}, and may be 0 to 3")
         np.copyto(self.moves, given.reshape(self.moves.shape), casting="unsafe")
 
@@ -172,7 +178,7 @@ class Core:
         assert self.rng is not None
         self._words[:] = self.rng.integers(0, 1 << 32, self._words.shape, np.uint32)
         done = np.logical_or(self.over, self.cut)
-        if done.any():
+        if np.count_nonzero(done):
             self._draw_starts(done)
         self._which[:] = done
         self._pass.run(planes)
@@ -185,7 +191,7 @@ class Core:
         self.alive = self._seats["cause"] == 0
         self.over = self._over != 0
         self.cut = self._turn >= LAST_TURN
-        if self.cut.any():
+        if np.count_nonzero(self.cut):
             self.cut &= ~self.over
 
     def seat_view(self, name: str) -> np.ndarray:
@@ -214,9 +220,11 @@ class Core:
         }
 
 
-def masked(infos: dict[str, np.ndarray], given: np.ndarray) -> dict[str, Any]:
-    """Infos as gymnasium has them: beside each a mask of the environments that it is given for."""
-    return {**infos, **{f"_{name}": given for name in infos}}
+def masks(count: int, *more: str) -> dict[str, np.ndarray]:
+    """The masks that gymnasium has beside infos: of which environments each is given, here all."""
+    given = np.ones(count, bool)
+    given.flags.writeable = False
+    return dict.fromkeys([f"_{name}" for name in (*INFOS, *more)], given)
 
 
 def refuse_options(options: Any) -> None:

@@ -7,7 +7,7 @@ from typing import Any
 
 import numpy as np
 
-from arena_rules.core import masked
+from arena_rules.core import masks
 from arena_rules.spaces import Discrete, batch_space, seat_space
 from arena_rules.vector import Environments
 
@@ -79,8 +79,7 @@ class SeatEnv(Environments):
         self._view = SeatView(core)
         self._kept = None if copy else np.zeros(self._view.shape, "u1")
         self._playing = np.zeros((core.count, core.seats), bool)
-        self._all = np.ones(self.num_envs, bool)
-        self._all.flags.writeable = False
+        self._masks = masks(self.num_envs, "waiting")
 
     def _flat(self, by_seat: np.ndarray) -> np.ndarray:
         return np.ascontiguousarray(by_seat).reshape(self.num_envs, *by_seat.shape[2:])
@@ -89,7 +88,7 @@ class SeatEnv(Environments):
         infos = self.core.infos()
         infos["turn"] = infos["turn"].repeat(self.seats)
         flat = {name: it if it.ndim == 1 else self._flat(it) for name, it in infos.items()}
-        return masked({**flat, "waiting": self._flat(waiting)}, self._all)
+        return {**flat, "waiting": self._flat(waiting), **self._masks}
 
     def reset(
         self, *, seed: int | None = None, options: dict[str, Any] | None = None

@@ -7,7 +7,7 @@ from typing import Any
 import numpy as np
 
 from arena_rules import render as drawing
-from arena_rules.core import LAST_TURN, Core, masked, refuse_options
+from arena_rules.core import LAST_TURN, Core, masks, refuse_options
 from arena_rules.spaces import AutoresetMode, MultiDiscrete, VectorBase, batch_space, game_space
 
 __all__ = ["LAST_TURN", "VectorEnv"]
@@ -99,8 +99,7 @@ class VectorEnv(Environments):
         self.action_space = batch_space(self.single_action_space, self.num_envs)
         self._shape = (self.num_envs, 1 + self.seats, games.height, games.width)
         self._planes = np.zeros(0 if copy else self._shape, "u1")
-        self._all = np.ones(self.num_envs, bool)
-        self._all.flags.writeable = False
+        self._masks = masks(self.num_envs)
 
     def _room(self) -> np.ndarray:
         """Where the planes of a call are written."""
@@ -126,7 +125,7 @@ class VectorEnv(Environments):
         planes = self._room()
         if self._observe:
             self.core.show(planes)
-        return self._observed(planes), masked(self.core.infos(), self._all)
+        return self._observed(planes), {**self.core.infos(), **self._masks}
 
     def step(self, actions: Any) -> tuple[Any, np.ndarray, np.ndarray, np.ndarray, dict[str, Any]]:
         """Plays a turn. Returns observations, rewards, terminations, truncations and infos."""
@@ -136,7 +135,7 @@ class VectorEnv(Environments):
         core.turn(planes if self._observe else None)
         last = core.over[:, None] & core.alive
         rewards = np.subtract(last, before > core.alive, dtype="f8")
-        infos = masked(core.infos(), self._all)
+        infos = {**core.infos(), **self._masks}
         return self._observed(planes), rewards, core.over.copy(), core.cut.copy(), infos
 
     def render(self) -> tuple[Any, ...] | None:
