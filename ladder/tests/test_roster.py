@@ -21,7 +21,6 @@ from arena_ladder.config import Bot
 from arena_ladder.rated import START, Change, Drawn, Player, Rated, Result, gains_of
 from arena_ladder.rating import ratings
 from arena_ladder.roster import add, add_config_bots, mark, replace, urls_of
-from arena_ladder.standings import lived_in
 from arena_ladder.store import Store, open_store
 
 NAMES = [f"bot{at}" for at in range(8)]
@@ -125,7 +124,9 @@ def separate_ratings(store: Store) -> dict[str, float]:
     replaced = store.replaced()
     pairs: defaultdict[tuple[str, str], float] = defaultdict(float)
     for outcome in store.outcomes():
-        (one, its), (two, others) = lived_in(outcome)
+        (one, its), (two, others) = [
+            (it.bot, math.inf if it.out is None else it.out) for it in outcome.finishes
+        ]
         pairs[one, two] += 1.0 if its > others else 0.5 if its == others else 0.0
         pairs[two, one] += 1.0 if others > its else 0.5 if its == others else 0.0
     for name in names:

@@ -177,16 +177,24 @@ def test_results_and_causes_are_stored_as_texts(tmp_path: Path) -> None:
     store.close()
 
 
-@pytest.mark.parametrize(
-    "change",
-    ["seat SET result = 'bye'", "seat SET cause = 'old age'", "missed SET cause = 'bored'"],
-)
+@pytest.mark.parametrize("change", ["total SET result = 'bye'", "total_missed SET cause = 'bored'"])
 def test_other_results_and_causes_are_refused(tmp_path: Path, change: str) -> None:
     store = open_store(fill(tmp_path / "x", (outcome("r0001-t001", "a", "b"), tallies(late=2))))
     with store.base:
         store.base.execute(f"UPDATE {change}")
     with pytest.raises(StoreFault, match="results.sqlite was changed"):
         standings_of(store)
+    store.close()
+
+
+@pytest.mark.parametrize("change", ["result = 'bye'", "cause = 'old age'"])
+def test_other_results_and_causes_of_a_game_are_refused(tmp_path: Path, change: str) -> None:
+    store = open_store(fill(tmp_path / "x", (outcome("r0001-t001", "a", "b"), tallies(late=2))))
+    with store.base:
+        store.base.execute(f"UPDATE seat SET {change}")
+    with pytest.raises(StoreFault, match="results.sqlite was changed"):
+        list(store.outcomes())
+    assert "the sums in total" in store.sums.fault()
     store.close()
 
 
@@ -245,8 +253,10 @@ def test_folder_that_may_not_be_written_is_named(
     """SQLite wants to finish the write of a killed ladder, and may not."""
 
     class Base:
-        def executescript(self, _: str) -> None:
+        def execute(self, _: str) -> None:
             raise sqlite3.OperationalError("attempt to write a readonly database")
+
+        executescript = execute
 
     monkeypatch.setattr(sqlite3, "connect", lambda *_, **__: Base())
     with pytest.raises(StoreFault, match="as its owner once, or read a copy"):

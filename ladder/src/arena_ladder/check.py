@@ -36,6 +36,7 @@ class Checked:
 
     games: int
     faults: dict[str, str]
+    sums: str = ""  # what is wrong with the sums of all games
 
 
 def check(folder: Path, program: Path, note: Callable[[int], None]) -> Checked:
@@ -43,7 +44,7 @@ def check(folder: Path, program: Path, note: Callable[[int], None]) -> Checked:
 
     A game agrees if its bots, places, food, words and hazards are those drawn from the seed, if
     `arena serve` writes for its file the same lines as the live host wrote, and if its last board
-    is the one in the results.
+    is the one in the results. The sums, of which the standings are made, have to be those of all.
     """
     with closing(open_store(folder)) as store:
         store.names()
@@ -54,6 +55,7 @@ def check(folder: Path, program: Path, note: Callable[[int], None]) -> Checked:
         rounds = max((it.round for it in outcomes), default=1)
         config = config_again(identity, folder, rounds)
         drawn = {fixture.name: fixture for fixture in drawn_again(config, store)}
+        sums = store.sums.fault()
 
     def fault(outcome: Outcome) -> str | None:
         return fault_of(outcome, config, drawn.get(outcome.name), program)
@@ -64,7 +66,7 @@ def check(folder: Path, program: Path, note: Callable[[int], None]) -> Checked:
             if why is not None:
                 faults[outcome.name] = why
             note(at)
-    return Checked(len(outcomes), faults)
+    return Checked(len(outcomes), faults, sums)
 
 
 def drawn_again(config: Config, store: Store) -> Iterable[Fixture]:

@@ -3,6 +3,7 @@
 from __future__ import annotations
 
 import hashlib
+import ipaddress
 import json
 import re
 import tomllib
@@ -34,6 +35,8 @@ MOST_ROUNDS = 100_000
 MOST_TURNS = 10_000
 MOST_OF_MATCH = 50  # games
 MOST_HAZARDS = 2_500
+LONGEST_URL = 2048  # bytes
+MOST_NETWORKS = 256
 LONGEST_FOOD = 32  # words of a move: at most this number of foods can appear in a turn
 
 
@@ -100,6 +103,8 @@ class Config:
     games_a_bot: int  # at the same time
     games: int = 0  # of a match, in a tournament
     group: int = 0  # bots of a group, in a tournament with groups
+    networks: tuple[str, ...] | None = None  # of addresses that are not public
+    hook: tuple[str, ...] = ()  # the words of a command that is run with each result
 
     @property
     def is_tournament(self) -> bool:
@@ -200,6 +205,15 @@ class Members:
             raise self.fault(f"{name} is {value!r}, and has to be true or false")
         return value
 
+    def texts(self, name: str) -> list[str] | None:
+        """A list of texts; None if the member is missing."""
+        value = self.table.pop(name, None)
+        if value is not None and not (
+            isinstance(value, list) and all(isinstance(it, str) and it for it in value)
+        ):
+            raise self.fault(f"{name} has to be a list of texts")
+        return value
+
     def finish(self) -> None:
         if self.table:
             raise self.fault(f"nobody knows {', '.join(sorted(self.table))}")
@@ -240,6 +254,8 @@ def config_of(table: dict[str, Any], place: str) -> Config:
         games_a_bot=members.number("games_a_bot", GAMES_A_BOT, 1, MOST_AT_ONCE),
         games=members.number("games", 4, 1, MOST_OF_MATCH) if pairing in TOURNAMENTS else 0,
         group=members.number("group", 4, 3, 16) if pairing == "groups" else 0,
+        networks=networks_of(members),
+        hook=tuple(members.texts("hook") or ()),
     )
     members.finish()
     if len(bots) < config.snakes and not is_endless:
@@ -294,6 +310,21 @@ def hazard_cells(members: Members, cells: Any, width: int, height: int) -> tuple
     return tuple(Cell(*cell) for cell in cells)
 
 
+def networks_of(members: Members) -> tuple[str, ...] | None:
+    """The networks whose addresses bots may have beside public ones; None if left out."""
+    names = members.texts("networks")
+    if names is None:
+        return None
+    if len(names) > MOST_NETWORKS:
+        raise members.fault(f"networks has more than {MOST_NETWORKS} members")
+    for name in names:
+        try:
+            ipaddress.ip_network(name)
+        except ValueError:
+            raise members.fault(f"{name!r} is no network such as 10.1.0.0/16") from None
+    return tuple(names)
+
+
 def snakes_of(members: Members, rules: Rules, pairing: str) -> int:
     """The number of snakes of a game; a game of one snake is possible in solo only."""
     usual = {"tables": 4}.get(pairing, 1 if rules.mode == "solo" else 2)
@@ -339,6 +370,8 @@ def bot_of(table: Any, place: str) -> Bot:
 
 def checked_url(url: str, members: Members) -> str:
     """Checks the address of a bot, and removes slashes at its end."""
+    if len(url.encode(errors="replace")) > LONGEST_URL:
+        raise members.fault(f"an address has at most {LONGEST_URL:,} bytes")
     try:
         target_of(url)
         is_fit = re.search(r"[\x00-\x20\x7f?#]", url) is None

@@ -8,7 +8,7 @@ import select
 import socket
 import ssl
 from collections import defaultdict
-from collections.abc import Sequence
+from collections.abc import Callable, Sequence
 
 from arena_ladder.addresses import AddressBook
 from arena_ladder.misses import BadAnswer, Miss
@@ -203,13 +203,17 @@ class Connection(asyncio.Protocol):
 
 
 class Connections:
-    """All connections of a run. It is an `async with` context, which closes them at its end."""
+    """All connections of a run. It is an `async with` context, which closes them at its end.
+
+    `permits` says whether a bot, of a URL, may be called at an address.
+    """
 
     def __init__(self, addresses: AddressBook) -> None:
         self.addresses = addresses
         self.owners: defaultdict[str, Owner] = defaultdict(Owner)  # by the address of the bot
         self.secure = client_context()
         self.trusted: dict[str, ssl.SSLContext] = {}  # by the address of a bot with its own
+        self.permits: Callable[[str, str], bool] = lambda bot, address: True
 
     async def __aenter__(self) -> Connections:
         return self
@@ -290,8 +294,12 @@ class Connections:
             return await self._connection_to(address, place, bot)
 
         race = Race(connect, Connection.close)
+        found = await self.addresses.of(place.host)
+        fit = [address for address in found if self.permits(bot, address)]
+        if not fit:
+            raise ConnectionError(f"{place.host} is in no network that is allowed")
         try:
-            address, connection = await race.run(await self.addresses.of(place.host))
+            address, connection = await race.run(fit)
             self.addresses.prefer(place.host, address)
             return connection
         finally:

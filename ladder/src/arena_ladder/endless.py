@@ -12,6 +12,8 @@ from arena_ladder.pairing import Fixture
 from arena_ladder.rated import Change, Drawn, Rated
 from arena_ladder.store import Store
 
+SNAPSHOT_GAMES = 1000  # from which on a restart goes on
+
 Bots = tuple[str, ...]
 
 
@@ -20,13 +22,40 @@ def name_of(number: int) -> str:
     return f"r{number:04}-t001"
 
 
-def replay(store: Store, rated: Rated) -> Iterator[tuple[Drawn, Bots | None]]:
-    """Goes through the games that were drawn; yields each with the bots that are drawn again."""
-    results, changes = store.results(0), store.changes(0)
-    for row in store.drawn():
-        rated.advance(results[rated.results : row.results], changes[rated.changes : row.changes])
+def number_of(name: str) -> int:
+    """The number of a game of an endless ladder."""
+    return int(name[1:].partition("-")[0])
+
+
+def replay(store: Store, rated: Rated, after: int = 0) -> Iterator[tuple[Drawn, Bots | None]]:
+    """Goes through the games that were drawn behind number `after`, up to which `rated` has gone.
+
+    Yields each with the bots that are drawn again.
+    """
+    known, changed = rated.results, rated.changes
+    results, changes = store.results(known), store.changes(changed)
+    for row in store.drawn(after):
+        rated.advance(
+            results[rated.results - known : row.results - known],
+            changes[rated.changes - changed : row.changes - changed],
+        )
         yield row, rated.draw(row.game, row.number, row.room)
         rated.begin(row.game, row.bots)
+
+
+def restore(store: Store, rated: Rated) -> int:
+    """Brings `rated` to where an earlier run was, and returns the number of the last game drawn."""
+    kept = store.snapshot()
+    number = 0
+    if kept is not None:
+        number, state = kept
+        rated.resume(state)
+    began = number
+    for row, _ in replay(store, rated, number):
+        number = row.number
+    if number - began >= SNAPSHOT_GAMES:
+        store.keep_snapshot(number, rated)
+    return number
 
 
 class Endless:
@@ -52,11 +81,11 @@ class Endless:
         self.rated = Rated(config.seed, config.snakes)
         self.running = 0
         self.is_over = False
-        done = store.names()
-        drawn = [row for row, _ in replay(store, self.rated)]
-        self.number = drawn[-1].number if drawn else 0
+        self.number = restore(store, self.rated)
         self.waiting = [  # games that an earlier run began
-            Fixture(row.game, row.number, row.bots) for row in drawn if row.game not in done
+            Fixture(game, number_of(game), bots)
+            for game, bots in self.rated.open.items()
+            if not store.has_game(game)
         ]
         heed(store.changes(0)[: self.rated.changes])
 
@@ -98,4 +127,6 @@ class Endless:
         self.store.add_drawn(row)
         self.rated.begin(game, bots)
         self.number = number
+        if number % SNAPSHOT_GAMES == 0:
+            self.store.keep_snapshot(number, self.rated)
         return Fixture(game, number, bots)

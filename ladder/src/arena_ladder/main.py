@@ -24,6 +24,7 @@ from arena_ladder.config import MOST_ROUNDS, Config, ConfigFault, read_config
 from arena_ladder.contests import add_contests
 from arena_ladder.game import GameFault
 from arena_ladder.game_files import make_folders
+from arena_ladder.hook import Hook
 from arena_ladder.lock import LockFault, locked
 from arena_ladder.merge import merge
 from arena_ladder.page_link import Address, PageFault, PageLink, address_of
@@ -66,6 +67,9 @@ async def play_job(job: Job, store: Store, counts: Counts, address: Address | No
         bar = stack.enter_context(ProgressBar(counts))
         log = await stack.enter_async_context(BotLog(job.folder, bar.say))
         watches: list[Watch] = [counts, bar, log]
+        if job.config.hook:
+            hook = Hook(job.folder, job.config.hook, bar.say)
+            watches.append(await stack.enter_async_context(hook))
         if address is not None:
             link = PageLink(job.folder, address, counts.line, bar.say, job.program)
             watches.append(await stack.enter_async_context(link))
@@ -130,8 +134,10 @@ def run_check(given: argparse.Namespace) -> int:
         )
     for name, why in checked.faults.items():
         print(fit_text(f"{name}: {why}"))
+    if checked.sums:
+        print(fit_text(f"results.sqlite: {checked.sums}"))
     print(f"{checked.games - len(checked.faults)} of {checked.games} games agree")
-    return 1 if checked.faults else 0
+    return 1 if checked.faults or checked.sums else 0
 
 
 def run_merge(given: argparse.Namespace) -> int:

@@ -11,10 +11,12 @@ from __future__ import annotations
 
 import asyncio
 import json
+import logging
 import os
 import socket
 import sys
-from collections.abc import AsyncIterator
+import time
+from collections.abc import AsyncIterator, Awaitable, Callable
 from contextlib import asynccontextmanager, closing, suppress
 from pathlib import Path
 
@@ -31,7 +33,8 @@ CLOSING_SECONDS = 2.0
 ALIVE_SECONDS = 1.0
 LONGEST_LINE = 256 * 1024 * 1024  # of the ladder; its messages have no more than 16 boards
 MOST_CONNECTIONS = 64
-SILENT_SECONDS = 10.0  # of a connection before its first request
+SILENT_SECONDS = 10.0  # of a connection until its first request has come
+LINE_SECONDS = 60.0  # from a line about bad requests to the next
 NICENESS = 10  # the games come first
 HEADERS = {
     "Cache-Control": "no-store",
@@ -42,6 +45,38 @@ HEADERS = {
 
 
 Protocols = set[asyncio.BaseProtocol]
+Handler = Callable[[web.Request], Awaitable[web.StreamResponse]]
+
+
+class Complaints(logging.Handler):
+    """Counts what the server says of its visitors, and writes one line a minute at most."""
+
+    def __init__(self) -> None:
+        super().__init__(logging.WARNING)
+        self.count = 0
+        self.next = 0.0
+
+    def emit(self, record: logging.LogRecord) -> None:
+        self.count += 1
+        now = time.monotonic()
+        if now >= self.next:
+            self.next = now + LINE_SECONDS
+            kind = record.exc_info[0] if record.exc_info else None
+            last = kind.__name__ if kind else record.name
+            print(
+                f"ladder: the page had {self.count} bad requests, the last: {last}",
+                file=sys.stderr,
+                flush=True,
+            )
+            self.count = 0
+
+
+def keep_quiet() -> None:
+    """Keeps the tracebacks of requests that are no HTTP off the terminal."""
+    complaints = Complaints()
+    for name in ("aiohttp", "asyncio"):
+        logger = logging.getLogger(name)
+        logger.handlers, logger.propagate = [complaints], False
 
 
 class Refuser(asyncio.Protocol):
@@ -110,10 +145,14 @@ def application(calls: Calls, silent: Protocols) -> web.Application:
         return await send_events(request, calls.feed)
 
     async def secure(request: web.Request, response: web.StreamResponse) -> None:
-        silent.discard(request.protocol)
         response.headers.update(HEADERS)
 
-    app = web.Application(middlewares=[faults_as_answers])
+    @web.middleware
+    async def heard(request: web.Request, handler: Handler) -> web.StreamResponse:
+        silent.discard(request.protocol)  # its answer may take long
+        return await handler(request)
+
+    app = web.Application(middlewares=[heard, faults_as_answers])
     app.add_routes([web.get(path, show) for path in files])
     app.add_routes([web.get("/events", events), *calls.routes()])
     app.on_response_prepare.append(secure)
@@ -173,6 +212,7 @@ async def serve(ladder: socket.socket, address: Address, folder: Path, program: 
 def main(words: list[str]) -> None:
     number, host, port, folder, program = words
     os.nice(NICENESS)
+    keep_quiet()
     ladder, address = socket.socket(fileno=int(number)), Address(host, int(port))
     asyncio.run(serve(ladder, address, Path(folder), Path(program)))
 

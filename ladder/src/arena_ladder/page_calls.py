@@ -25,7 +25,7 @@ from aiohttp import web
 
 from arena_ladder.feed import REST, Feed
 from arena_ladder.game_files import command_file
-from arena_ladder.history import games_of, has_game, ratings_over_time, record_of
+from arena_ladder.history import games_of, ratings_over_time, record_of
 from arena_ladder.pairing import GAME_NAME
 from arena_ladder.standings import standings_of
 from arena_ladder.store import Store, StoreFault, open_store
@@ -134,7 +134,7 @@ class Calls:
         game = request.match_info["game"]
         if not GAME_NAME.fullmatch(game):
             raise web.HTTPNotFound(text="there is no such game")
-        if not await self.answers.get(("game", game), lambda store: has_game(store, game)):
+        if not await self.answers.get(("game", game), lambda store: store.has_game(game)):
             raise web.HTTPNotFound(text="there is no such game, or it is not done")
         return game
 

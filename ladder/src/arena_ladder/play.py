@@ -21,7 +21,7 @@ from arena_ladder.kept_answers import KeptAnswers
 from arena_ladder.pairing import Fixture, Part, fixtures_of
 from arena_ladder.payloads import Look
 from arena_ladder.rated import Change
-from arena_ladder.roster import add_config_bots, urls_of
+from arena_ladder.roster import add_config_bots, keep_networks, networks_of, urls_of
 from arena_ladder.schedule import CALM_SECONDS, Pace, Schedule
 from arena_ladder.store import Store
 from arena_ladder.tournament_play import Playing
@@ -50,11 +50,14 @@ async def play(job: Job, store: Store, watches: Sequence[Watch]) -> None:
     config = job.config
     is_listed = not (config.is_endless or config.is_tournament)
     fixtures = fixtures_of(config, job.part) if is_listed else []
-    done = store.names()
     if config.is_endless:
         add_config_bots(store, config.bots)
-    elif is_listed:
-        done &= {fixture.name for fixture in fixtures}
+        keep_networks(store, config)
+        done, count = set(filter(store.has_game, running_games(job.folder))), store.count_games()
+    else:
+        done = store.names()
+        done = done & {fixture.name for fixture in fixtures} if is_listed else done
+        count = len(done)
     kept = KeptAnswers(job.folder)
     for name in running_games(job.folder) & done:
         kept.keep(name)
@@ -62,8 +65,10 @@ async def play(job: Job, store: Store, watches: Sequence[Watch]) -> None:
         BotClient(config.timeout / 1000) as client,
         HostKeeper(job.program, BLOCKS_OF_GAME * config.at_once, config.rules.plan) as keeper,
     ):
+        given, networks = {bot.url for bot in config.bots}, networks_of(store)
+        client.connections.permits = lambda bot, at: bot in given or networks.permits(at)
         watch = Watches([*watches, keeper])
-        watch.begin(len(done), planned(config, fixtures))
+        watch.begin(count, planned(config, fixtures))
         context = await run_context(job, client, watch)
         asking = asyncio.create_task(ask_looks_again(context))
         try:

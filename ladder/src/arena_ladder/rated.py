@@ -11,6 +11,7 @@ from collections import Counter
 from collections.abc import Sequence
 from dataclasses import dataclass
 from itertools import combinations
+from typing import Any
 
 from arena_ladder.draws import Draw
 
@@ -77,6 +78,22 @@ class Rated:
         self.open: dict[str, tuple[str, ...]] = {}
         self.results = 0  # so far
         self.changes = 0
+
+    @property
+    def state(self) -> dict[str, Any]:
+        """All that changes, as values of JSON, which `resume` takes."""
+        return {
+            "players": {name: vars(it) for name, it in self.players.items()},
+            "open": self.open,
+            "results": self.results,
+            "changes": self.changes,
+        }
+
+    def resume(self, state: dict[str, Any]) -> None:
+        """Takes a state."""
+        self.players = {name: Player(**it) for name, it in state["players"].items()}
+        self.open = {game: tuple(bots) for game, bots in state["open"].items()}
+        self.results, self.changes = state["results"], state["changes"]
 
     def advance(self, results: Sequence[Result], changes: Sequence[Change]) -> None:
         """Takes the next results and changes, each change after the results before it."""

@@ -16,6 +16,7 @@ from collections.abc import Iterable, Mapping, Sequence
 from dataclasses import dataclass
 from itertools import combinations
 from types import MappingProxyType
+from typing import NamedTuple
 
 import numpy as np
 from numpy.typing import NDArray
@@ -36,6 +37,17 @@ class Rating:
 
     elo: float
     error: float
+
+
+class Games(NamedTuple):
+    """The games of some number of seats in which two bots met."""
+
+    one: str
+    other: str
+    seats: int
+    games: int
+    outlived: int  # in which the first lived longer
+    equal: int
 
 
 NONE: Mapping[str, str] = MappingProxyType({})
@@ -63,6 +75,12 @@ class Comparisons:
             share = 0.5 if its == others else float(its > others)
             self.wins[self.at[one]][self.at[other]] += weight * share
             self.wins[self.at[other]][self.at[one]] += weight * (1 - share)
+
+    def add_games(self, it: Games) -> None:
+        """Adds games of two bots."""
+        weight, share = 2 / it.seats, it.outlived + it.equal / 2
+        self.wins[self.at[it.one]][self.at[it.other]] += weight * share
+        self.wins[self.at[it.other]][self.at[it.one]] += weight * (it.games - share)
 
 
 def ratings(

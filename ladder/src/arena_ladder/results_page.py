@@ -20,26 +20,26 @@ LOOK_SECONDS = 2.0  # from one look at the folder to the next
 def games_in(folder: Path) -> int:
     """The number of games that are done."""
     with closing(open_store(folder)) as store:
-        (count,) = store.base.execute("SELECT COUNT(*) FROM game").fetchone()
-    return int(count)
+        return store.count_games()
 
 
 async def serve_results(folder: Path, program: Path, address: Address) -> None:
     """Serves the page until the task is cancelled; results that are added appear on it."""
     from arena_ladder.feed import Feed
-    from arena_ladder.page import page, results_of
+    from arena_ladder.page import keep_quiet, page, results_of
     from arena_ladder.page_calls import Calls
 
     task = asyncio.current_task()
     assert task is not None
     asyncio.get_running_loop().add_signal_handler(signal.SIGTERM, task.cancel)
+    keep_quiet()
     feed = Feed(lambda: results_of(folder))
     words: dict[str, Any] = {"summary": "", "left": "", "waits": ""}
     words |= {"boards": {}, "running": [], "ended": {}, "colours": {}}
     seen = games_in(folder)
-    await feed.refresh()
     async with page(Calls(feed, folder, program), address) as served:
         print(f"ladder: the page is {served}", flush=True)
+        await feed.refresh()
         while True:
             games = await asyncio.to_thread(games_in, folder)
             feed.is_stale = feed.is_stale or games != seen

@@ -7,10 +7,14 @@ from collections.abc import Callable
 from contextlib import closing
 from pathlib import Path
 
-from arena_ladder.config import BOT_NAME, MOST_BOTS, Bot, Members, checked_url
+from arena_ladder.addresses import addresses_of
+from arena_ladder.config import BOT_NAME, MOST_BOTS, Bot, Config, Members, checked_url
+from arena_ladder.networks import Networks, is_loopback
 from arena_ladder.rated import Change, Rated
 from arena_ladder.store import Store, StoreFault, open_store
-from arena_ladder.urls import shown
+from arena_ladder.urls import shown, target_of
+
+NETWORKS = "networks"  # the name of the setting
 
 
 def add_config_bots(store: Store, bots: tuple[Bot, ...]) -> None:
@@ -49,11 +53,41 @@ def change_roster(folder: Path, work: Callable[[Store, Rated], str]) -> str:
         return work(store, state_of(store))
 
 
-def fit_url(url: str) -> str:
-    """Checks an address of a bot; the folder keeps it, so it may have no password."""
+def fit_url(store: Store, url: str) -> str:
+    """Checks an address of a bot; the folder keeps it, so it may have no password.
+
+    A name that has no address now is checked when it is called.
+    """
     if shown(url) != url:
         raise StoreFault("an address with a password can stand in the configuration alone")
-    return checked_url(url, Members({}, "the roster"))
+    url = checked_url(url, Members({}, "the roster"))
+    host = target_of(url).place.host
+    try:
+        found = addresses_of(host)
+    except (OSError, UnicodeError):
+        found = []
+    networks = networks_of(store)
+    if found and not any(map(networks.permits, found)):
+        raise StoreFault(
+            f"{host} is at {found[0]}, which is not public: name its network in `networks`, "
+            "and play"
+        )
+    return url
+
+
+def networks_of(store: Store) -> Networks:
+    """The networks of the last configuration that was played.
+
+    If it names none, the loopback is allowed where a bot of that configuration is on it.
+    """
+    kept = store.setting(NETWORKS) or {"names": None, "loopback": True}
+    return Networks(kept["names"], kept["loopback"])
+
+
+def keep_networks(store: Store, config: Config) -> None:
+    """Keeps the networks of a configuration, for the commands that add bots."""
+    has_loopback = any(is_loopback(target_of(bot.url).place.host) for bot in config.bots)
+    store.keep_setting(NETWORKS, {"names": config.networks, "loopback": has_loopback})
 
 
 def present(rated: Rated, name: str) -> None:
@@ -71,7 +105,7 @@ def add(folder: Path, name: str, url: str) -> str:
             raise StoreFault(f"the roster has a bot {name!r}: replace it by a new version")
         if sum(it.is_in for it in rated.players.values()) >= MOST_BOTS:
             raise StoreFault(f"the roster has {MOST_BOTS} bots")
-        store.add_change("add", name, fit_url(url))
+        store.add_change("add", name, fit_url(store, url))
         return f"{name} plays from its next game on"
 
     return change_roster(folder, work)
@@ -84,7 +118,7 @@ def replace(folder: Path, name: str, url: str) -> str:
         present(rated, name)
         stem = re.sub("@[0-9]+$", "", name)
         version = 2 + sum(it.startswith(f"{stem}@") for it in rated.players)
-        store.add_change("replace", f"{stem}@{version}", fit_url(url), name)
+        store.add_change("replace", f"{stem}@{version}", fit_url(store, url), name)
         return f"{stem}@{version} plays in place of {name}"
 
     return change_roster(folder, work)

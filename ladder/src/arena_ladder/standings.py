@@ -5,7 +5,6 @@ from __future__ import annotations
 import csv
 import io
 import json
-import math
 from collections import Counter
 from collections.abc import Iterable, Mapping
 from dataclasses import dataclass, field
@@ -15,10 +14,11 @@ from rich.table import Table
 from rich.text import Text
 
 from arena_ladder.misses import Miss
-from arena_ladder.outcome import Outcome, SeatResult
+from arena_ladder.outcome import SeatResult
 from arena_ladder.quantiles import quantile
-from arena_ladder.rating import Rating, ratings
+from arena_ladder.rating import Comparisons, Games, Rating, ratings_from
 from arena_ladder.store import Store
+from arena_ladder.sums import ALL
 from arena_ladder.texts import cell_text, fit_text
 
 
@@ -53,29 +53,30 @@ class Standing:
         }
 
 
-def lived_in(outcome: Outcome) -> list[tuple[str, float]]:
-    """The turns that each bot of a game lived; infinite if it lives at the end."""
-    return [(it.bot, math.inf if it.out is None else float(it.out)) for it in outcome.finishes]
-
-
 def standings_of(store: Store) -> list[Standing]:
     """The standings of the games that are done, from the highest rating to the lowest."""
-    outcomes = list(store.outcomes())
     missed, latencies = store.missed(), store.latencies()
     table = {bot.name: Standing(bot.name) for bot in store.bots()}
-    for outcome in outcomes:
-        for it in outcome.finishes:
-            standing = table[it.bot]
-            standing.games += 1
-            standing.results[it.result] += 1
-            standing.turns += it.turns
-    games = (lived_in(it) for it in outcomes if len(it.finishes) > 1)
-    rated = ratings(list(table), games, store.replaced())
+    for bot, result, games, turns in store.results_of_bots():
+        standing = table[bot]
+        standing.games += games
+        standing.results[result] += games
+        standing.turns += turns
+    rated = ratings_from(comparisons_of(store, list(table)))
     for name, standing in table.items():
         standing.rating = rated[name]
         standing.latencies = latencies.get(name, {})
         standing.missed = missed.get(name, {})
     return sorted(table.values(), key=place_of)
+
+
+def comparisons_of(store: Store, names: list[str]) -> Comparisons:
+    """How often each bot outlived each other one, in all games."""
+    compared = Comparisons(names, store.replaced())
+    pairs = "SELECT one, other, seats, games, outlived, equal FROM pair WHERE block = ?"
+    for row in store.sums.rows(pairs, ALL):
+        compared.add_games(Games(*row))
+    return compared
 
 
 def place_of(standing: Standing) -> tuple[float, int, str]:

@@ -14,7 +14,8 @@ from arena_ladder.config import Bot
 from arena_ladder.misses import Miss
 from arena_ladder.outcome import Finish, Outcome, SeatResult, Tally
 from arena_ladder.pairing import GAME_NAME
-from arena_ladder.rated import Change, Drawn, Result
+from arena_ladder.rated import Change, Drawn, Rated, Result
+from arena_ladder.sums import Sums
 from arena_ladder.urls import shown
 
 BUSY_SECONDS = 60.0
@@ -35,6 +36,9 @@ CREATE TABLE IF NOT EXISTS roster (
 CREATE TABLE IF NOT EXISTS drawn (
     number INTEGER PRIMARY KEY, game TEXT NOT NULL, results INTEGER NOT NULL,
     changes INTEGER NOT NULL, room INTEGER NOT NULL, bots TEXT NOT NULL);
+CREATE TABLE IF NOT EXISTS setting (name TEXT PRIMARY KEY, value TEXT NOT NULL) WITHOUT ROWID;
+CREATE TABLE IF NOT EXISTS snapshot (
+    one INTEGER PRIMARY KEY CHECK (one = 1), drawn INTEGER NOT NULL, state TEXT NOT NULL);
 CREATE TABLE IF NOT EXISTS missed (
     game TEXT NOT NULL, seat INTEGER NOT NULL, cause TEXT NOT NULL, moves INTEGER NOT NULL,
     PRIMARY KEY (game, seat, cause)) WITHOUT ROWID;
@@ -55,8 +59,9 @@ class Store:
         self.path = folder / "results.sqlite"
         # Another thread adds the games, one after the other.
         self.base = sqlite3.connect(self.path, timeout=BUSY_SECONDS, check_same_thread=False)
+        self.sums = Sums(self.base)
         try:
-            self.base.executescript(SCHEMA)
+            self.prepare()
         except sqlite3.OperationalError as fault:
             if "readonly" not in str(fault):
                 raise
@@ -64,6 +69,20 @@ class Store:
                 f"{self.path} has a write that a killed ladder left unfinished, and you may not "
                 "write there: play or read it as its owner once, or read a copy of the folder"
             ) from None
+        except sqlite3.DatabaseError as fault:
+            if isinstance(fault, sqlite3.OperationalError):
+                raise
+            raise self.changed(fault) from None
+
+    def prepare(self) -> None:
+        """Makes the tables that are missing. A folder that may not be written goes without."""
+        try:
+            self.base.executescript(SCHEMA)
+        except sqlite3.OperationalError as fault:
+            if "readonly" not in str(fault):
+                raise
+            self.base.execute("SELECT 1 FROM game").fetchone()
+        self.sums.prepare()
 
     def close(self) -> None:
         self.base.close()
@@ -107,9 +126,11 @@ class Store:
             for outcome, tallies in played:
                 name = outcome.name
                 row = (name, outcome.round, outcome.turns, outcome.lines, outcome.digest)
-                self.base.execute("INSERT INTO game VALUES (?, ?, ?, ?, ?)", row)
+                added = self.base.execute("INSERT INTO game VALUES (?, ?, ?, ?, ?)", row)
                 for seat, finish in enumerate(outcome.finishes):
                     self.add_seat(name, seat, finish, tallies[finish.bot])
+                assert added.lastrowid is not None
+                self.sums.add(added.lastrowid, outcome, tallies)
 
     def add_seat(self, game: str, seat: int, it: Finish, tally: Tally) -> None:
         row = (game, seat, it.bot, it.result, it.out, it.cause, it.killer, it.length, it.turns)
@@ -207,10 +228,12 @@ class Store:
         rows = self.base.execute("SELECT bot, old FROM roster WHERE what = 'replace'")
         return dict(rows.fetchall())
 
-    def drawn(self) -> list[Drawn]:
-        """The games of an endless ladder that were drawn, in their order."""
+    def drawn(self, after: int = 0) -> list[Drawn]:
+        """The games of an endless ladder that were drawn behind number `after`, in their order."""
         rows = self.base.execute(
-            "SELECT number, game, results, changes, room, bots FROM drawn ORDER BY number"
+            "SELECT number, game, results, changes, room, bots FROM drawn WHERE number > ?"
+            " ORDER BY number",
+            (after,),
         )
         return [
             Drawn(number, game, results, changes, room, tuple(json.loads(bots)))
@@ -218,9 +241,12 @@ class Store:
         ]
 
     def add_drawn(self, it: Drawn) -> None:
-        row = (it.number, it.game, it.results, it.changes, it.room, json.dumps(it.bots))
         with self.base:
-            self.base.execute("INSERT INTO drawn VALUES (?, ?, ?, ?, ?, ?)", row)
+            self.insert_drawn(it)
+
+    def insert_drawn(self, it: Drawn) -> None:
+        row = (it.number, it.game, it.results, it.changes, it.room, json.dumps(it.bots))
+        self.base.execute("INSERT INTO drawn VALUES (?, ?, ?, ?, ?, ?)", row)
 
     def tallies(self, game: str) -> dict[str, Tally]:
         """The tally of each bot of a game that is done."""
@@ -241,26 +267,57 @@ class Store:
         except ValueError as fault:
             raise self.changed(fault) from None
 
-    def counts(self, table: str, key: str) -> dict[str, Counter[Any]]:
-        """The number of moves of each bot by value of a column: of `missed` by cause, of `latency`
-        by milliseconds."""
-        found: dict[str, Counter[Any]] = {}
-        rows = self.base.execute(
-            f"SELECT bot, {table}.{key}, SUM(moves) FROM {table} JOIN seat USING (game, seat)"
-            f" GROUP BY bot, {table}.{key}"
-        )
-        for bot, value, moves in rows:
-            found.setdefault(bot, Counter())[value] = moves
+    def missed(self) -> dict[str, Counter[Miss]]:
+        """The missed moves of each bot by their causes."""
+        found: dict[str, Counter[Miss]] = {}
+        for bot, cause, moves in self.base.execute("SELECT * FROM total_missed"):
+            found.setdefault(bot, Counter())[self.miss(cause)] = moves
         return found
 
-    def missed(self) -> dict[str, Counter[Miss]]:
-        return {
-            bot: Counter({self.miss(cause): moves for cause, moves in counts.items()})
-            for bot, counts in self.counts("missed", "cause").items()
-        }
-
     def latencies(self) -> dict[str, Counter[int]]:
-        return self.counts("latency", "ms")
+        """The moves of each bot by milliseconds."""
+        found: dict[str, Counter[int]] = {}
+        for bot, ms, moves in self.base.execute("SELECT * FROM total_latency"):
+            found.setdefault(bot, Counter())[ms] = moves
+        return found
+
+    def results_of_bots(self) -> list[tuple[str, SeatResult, int, int]]:
+        """How often each bot ended with each result, and the turns that it lived in these games."""
+        rows = self.base.execute("SELECT bot, result, games, turns FROM total").fetchall()
+        try:
+            return [(bot, SeatResult(result), games, turns) for bot, result, games, turns in rows]
+        except ValueError as fault:
+            raise self.changed(fault) from None
+
+    def count_games(self) -> int:
+        """The number of games that are done; none is ever removed."""
+        (count,) = self.base.execute("SELECT IFNULL(MAX(rowid), 0) FROM game").fetchone()
+        return int(count)
+
+    def has_game(self, name: str) -> bool:
+        """Whether a game is done."""
+        found = self.base.execute("SELECT 1 FROM game WHERE name = ?", (name,))
+        return found.fetchone() is not None
+
+    def setting(self, name: str) -> Any:
+        """A value of JSON that was kept under a name; None if there is none."""
+        row = self.base.execute("SELECT value FROM setting WHERE name = ?", (name,)).fetchone()
+        return json.loads(row[0]) if row else None
+
+    def keep_setting(self, name: str, value: Any) -> None:
+        row = (name, json.dumps(value))
+        with self.base:
+            self.base.execute("INSERT OR REPLACE INTO setting VALUES (?, ?)", row)
+
+    def snapshot(self) -> tuple[int, dict[str, Any]] | None:
+        """The state of `Rated` after the game of a number was drawn, if one was kept."""
+        row = self.base.execute("SELECT drawn, state FROM snapshot").fetchone()
+        return (row[0], json.loads(row[1])) if row else None
+
+    def keep_snapshot(self, number: int, rated: Rated) -> None:
+        row = (number, json.dumps(rated.state))
+        with self.base:
+            self.base.execute("INSERT OR REPLACE INTO snapshot VALUES (1, ?, ?)", row)
 
 
 def open_store(folder: Path) -> Store:
