@@ -13,9 +13,10 @@ from typing import Any
 from arena_ladder.bot_log import HEADING, BotLog, read_log
 from arena_ladder.config import MAPS, MODES
 from arena_ladder.export import frames, game_rows, request_body, transcript_of
-from arena_ladder.game_files import command_file, make_folders
+from arena_ladder.game_files import make_folders
 from arena_ladder.lock import locked
 from arena_ladder.match import Boards, match_config, new_folder, result_lines
+from arena_ladder.packs import commands_of
 from arena_ladder.pairing import Part
 from arena_ladder.play import Job, play
 from arena_ladder.program import add_program, program_of
@@ -52,7 +53,7 @@ def run_match(given: argparse.Namespace) -> int:
     with locked(folder), closing(Store(folder)) as store:
         asyncio.run(work())
     assert boards.outcome is not None
-    text = transcript_of(command_file(folder, boards.outcome.name), program)
+    text = transcript_of(commands_of(folder, boards.outcome.name), program)
     (folder / "game.transcript").write_bytes(text)
     if given.view:
         shown = step_through if sys.stdin.isatty() and sys.stdout.isatty() else print_all

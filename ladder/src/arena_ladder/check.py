@@ -18,9 +18,9 @@ from arena_ladder.config import Config, config_again
 from arena_ladder.draws import words_of
 from arena_ladder.endless import replay
 from arena_ladder.game import opening
-from arena_ladder.game_files import command_file
 from arena_ladder.map_moves import map_members
 from arena_ladder.outcome import Outcome, finishes_of
+from arena_ladder.packs import commands_of
 from arena_ladder.pairing import Fixture, fixtures_of
 from arena_ladder.rated import Rated
 from arena_ladder.store import Store, StoreFault, open_store
@@ -86,15 +86,15 @@ def fault_of(
     """Why a game does not agree, or None if it does."""
     if fixture is None:
         return "the pairings have no such game"
-    path = command_file(config.folder, outcome.name)
     try:
-        lines = path.read_bytes().splitlines(keepends=True)
+        text = commands_of(config.folder, outcome.name)
     except OSError as fault:
         return f"its file can't be read: {fault.strerror}"
+    lines = text.splitlines(keepends=True)
     wrong = fault_of_lines(lines, config, fixture)
     if wrong is not None:
         return wrong
-    wrong, replies = fault_of_replies(path, outcome, program)
+    wrong, replies = fault_of_replies(text, outcome, program)
     return wrong or fault_of_boards(lines, replies, config, fixture)
 
 
@@ -154,12 +154,14 @@ def fault_of_boards(
     return None
 
 
-def fault_of_replies(path: Path, outcome: Outcome, program: Path) -> tuple[str | None, list[bytes]]:
+def fault_of_replies(
+    text: bytes, outcome: Outcome, program: Path
+) -> tuple[str | None, list[bytes]]:
     """Why the replies of `arena serve` are not those of the live host, or not this outcome; and
     the replies."""
-    words = [str(program), "serve", str(path), "--blocks", str(BLOCKS_OF_GAME), "--workers", "1"]
+    words = [str(program), "serve", "-", "--blocks", str(BLOCKS_OF_GAME), "--workers", "1"]
     try:
-        ran = subprocess.run(words, capture_output=True, timeout=SERVE_SECONDS)
+        ran = subprocess.run(words, input=text, capture_output=True, timeout=SERVE_SECONDS)
     except (OSError, subprocess.TimeoutExpired) as fault:
         return f"arena serve did not run: {fault}", []
     if ran.returncode != 0:

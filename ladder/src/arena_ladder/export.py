@@ -12,9 +12,9 @@ from typing import Any
 
 from arena_client import BLOCKS_OF_GAME, Board
 from arena_ladder.config import Config, config_again
-from arena_ladder.game_files import command_file
 from arena_ladder.kept_answers import Heard, heard_in
 from arena_ladder.outcome import Outcome, SeatResult
+from arena_ladder.packs import commands_of
 from arena_ladder.payloads import Seat, bodies, game_text, living_of, seats_of, text_of
 from arena_ladder.store import StoreFault, open_store
 
@@ -30,7 +30,7 @@ def frames(folder: Path, game: str, program: Path) -> Iterator[str]:
     seats = seats_of(config, game, [it.bot for it in outcome.finishes], {})
     heard = heard_in(folder, game) or []
     yield text
-    for turn, board in enumerate(boards_of(command_file(folder, game), program)):
+    for turn, board in enumerate(boards_of(commands_of(folder, game), program)):
         hear(seats, heard, turn)
         you = (living_of(board) or list(seats))[:1]
         yield bodies(text, board, seats, you)[0].decode()
@@ -62,7 +62,7 @@ def request_body(folder: Path, game: str, bot: str, turn: int, program: Path) ->
     seats = seats_of(config, game, [it.bot for it in outcome.finishes], {})
     for at in range(turn + 1):
         hear(seats, heard, at)
-    board = next(islice(boards_of(command_file(folder, game), program), turn, None))
+    board = next(islice(boards_of(commands_of(folder, game), program), turn, None))
     return bodies(game_text(config, game), board, seats, [bot])[0]
 
 
@@ -76,18 +76,18 @@ def finished_game(folder: Path, game: str) -> tuple[Config, Outcome]:
     return config_again(identity, folder, 1), outcome
 
 
-def boards_of(path: Path, program: Path) -> Iterator[Board]:
+def boards_of(commands: bytes, program: Path) -> Iterator[Board]:
     """The boards of a command file of one game, turn by turn."""
-    for line in transcript_of(path, program).splitlines():
+    for line in transcript_of(commands, program).splitlines():
         reply = json.loads(line)
         if reply.get("do") in ("new", "move"):
             yield reply["board"]
 
 
-def transcript_of(path: Path, program: Path) -> bytes:
+def transcript_of(commands: bytes, program: Path) -> bytes:
     """What `arena serve` writes for a command file of one game."""
-    words = [str(program), "serve", str(path), "--blocks", str(BLOCKS_OF_GAME), "--workers", "1"]
-    ran = subprocess.run(words, capture_output=True)
+    words = [str(program), "serve", "-", "--blocks", str(BLOCKS_OF_GAME), "--workers", "1"]
+    ran = subprocess.run(words, input=commands, capture_output=True)
     if ran.returncode != 0:
         why = ran.stderr.decode(errors="replace").strip()
         raise StoreFault(f"arena serve ended with status {ran.returncode}: {why}")

@@ -82,8 +82,8 @@ def record_of(store: Store, bot: str) -> dict[str, Any]:
 
 
 def ratings_over_time(store: Store) -> dict[str, list[Point]]:
-    """The rating of each bot after each block of games, from its first game on."""
-    count = store.count_games()
+    """The rating of each bot after each block of games of the season, from its first game on."""
+    count = store.count_games() - store.sums.first()
     ((shift,),) = store.sums.rows("SELECT shift FROM summed")
     results = Comparisons(bots_of(store), store.replaced())
     points: dict[str, list[Point]] = {name: [] for name in results.names}

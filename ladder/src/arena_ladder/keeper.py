@@ -3,6 +3,8 @@
 from __future__ import annotations
 
 import asyncio
+import time
+from collections import deque
 from collections.abc import Mapping
 from contextlib import suppress
 from pathlib import Path
@@ -13,7 +15,8 @@ from arena_ladder.watch import Watch
 
 FAULTS = (5, 7)  # out of memory, and broken: statuses after which another host is started
 MOST_IDLE_DEATHS = 5  # in succession, without a turn between them
-MOST_DEATHS = 100
+MOST_DEATHS = 100  # within an hour
+HOUR = 3600.0
 
 
 class HostKeeper(Watch):
@@ -23,7 +26,7 @@ class HostKeeper(Watch):
         self.program = program
         self.blocks = blocks
         self.plan = plan
-        self.deaths = 0
+        self.deaths: deque[float] = deque()  # moments of the monotonic clock
         self.idle_deaths = 0
         self._lock = asyncio.Lock()
         self._host: Host | None = None
@@ -59,10 +62,16 @@ class HostKeeper(Watch):
             if self._host is not host:
                 return False
             self._host = None
-            self.deaths += 1
+            self.deaths.append(time.monotonic())
+            while self.deaths[0] < self.deaths[-1] - HOUR:
+                self.deaths.popleft()
             self.idle_deaths += 1
             await host.kill()
             is_fault = death.status < 0 or death.status in FAULTS
-            if not is_fault or self.idle_deaths > MOST_IDLE_DEATHS or self.deaths > MOST_DEATHS:
+            if (
+                not is_fault
+                or self.idle_deaths > MOST_IDLE_DEATHS
+                or len(self.deaths) > MOST_DEATHS
+            ):
                 raise death
             return True

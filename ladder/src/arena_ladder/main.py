@@ -4,6 +4,7 @@ from __future__ import annotations
 
 import argparse
 import asyncio
+import json
 import math
 import signal
 import sqlite3
@@ -20,11 +21,12 @@ from arena_client import HostDied, HostFault
 from arena_ladder.author_commands import add_author_commands
 from arena_ladder.bot_log import BotLog
 from arena_ladder.check import check
-from arena_ladder.config import MOST_ROUNDS, Config, ConfigFault, read_config
+from arena_ladder.config import ENDLESS, Config, ConfigFault, read_config
 from arena_ladder.contests import add_contests
 from arena_ladder.game import GameFault
 from arena_ladder.game_files import make_folders
 from arena_ladder.hook import Hook
+from arena_ladder.keeping_commands import add_keeping_commands
 from arena_ladder.lock import LockFault, locked
 from arena_ladder.merge import merge
 from arena_ladder.page_link import Address, PageFault, PageLink, address_of
@@ -34,6 +36,7 @@ from arena_ladder.program import ProgramFault, add_program, program_of
 from arena_ladder.progress import Counts, ProgressBar
 from arena_ladder.results_page import add_page_command
 from arena_ladder.roster_commands import add_roster_commands
+from arena_ladder.seasons import season_of
 from arena_ladder.seeds import seed_line, seed_line_of, with_seed
 from arena_ladder.store import Store, StoreFault, open_store
 from arena_ladder.texts import fit_text
@@ -96,7 +99,13 @@ def play_config(config: Config, given: argparse.Namespace) -> int:
     make_folders(folder)
     with locked(folder), closing(Store(folder)) as store:
         asyncio.run(play_job(job, store, counts, given.page))  # waits for its threads
-    for line in [*counts.summary(), seed_line(config.identity, is_closed=False)]:
+    ends = [f"it has its {config.rounds:,} games: --rounds, or `rounds`, lets it go on"]
+    has_ended = config.is_endless and counts.done >= config.rounds
+    for line in [
+        *counts.summary(),
+        *(ends if has_ended else []),
+        seed_line(config.identity, is_closed=False),
+    ]:
         print(f"ladder: {line}")
     return 0
 
@@ -106,6 +115,9 @@ def run_standings(given: argparse.Namespace) -> int:
     from arena_ladder.standings import as_csv, as_json, as_table, standings_of
 
     with closing(open_store(given.folder)) as store:
+        if given.season:
+            print(json.dumps(season_of(store, given.season).rows, indent=2))
+            return 0
         standings = standings_of(store)
         seed = seed_line_of(store)
     if given.csv or given.json:
@@ -149,7 +161,7 @@ def run_merge(given: argparse.Namespace) -> int:
 
 def rounds_of(word: str) -> int:
     rounds = int(word)
-    if not 1 <= rounds <= MOST_ROUNDS:
+    if not 1 <= rounds <= ENDLESS:
         raise ValueError(word)
     return rounds
 
@@ -180,6 +192,7 @@ def parser(prog: str | None) -> argparse.ArgumentParser:
     form = one.add_mutually_exclusive_group()
     form.add_argument("--csv", action="store_true")
     form.add_argument("--json", action="store_true")
+    form.add_argument("--season", metavar="NAME", help="of a season that has ended, as JSON")
     one.set_defaults(run=run_standings)
     one = commands.add_parser("check", help="plays all games of a folder again, and compares")
     one.add_argument("folder", metavar="FOLDER", type=Path)
@@ -197,6 +210,7 @@ def parser(prog: str | None) -> argparse.ArgumentParser:
     add_contests(commands)
     add_tournaments(commands, play_config, address_of)
     add_roster_commands(commands)
+    add_keeping_commands(commands)
     return words
 
 

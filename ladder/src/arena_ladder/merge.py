@@ -3,7 +3,6 @@
 from __future__ import annotations
 
 import os
-import shutil
 from collections.abc import Iterator, Mapping, Sequence
 from contextlib import closing
 from pathlib import Path
@@ -11,6 +10,7 @@ from pathlib import Path
 from arena_ladder.game_files import command_file, make_folders
 from arena_ladder.lock import locked
 from arena_ladder.outcome import Outcome, Tally
+from arena_ladder.packs import commands_of
 from arena_ladder.store import Store, StoreFault, open_store
 
 
@@ -43,7 +43,7 @@ def add_folder(into: Path, store: Store, folder: Path) -> int:
                 raise StoreFault(f"{outcome.name} of {folder} is another game in {into}")
         missing = [outcome for outcome in found if outcome.name not in known]
         for outcome in missing:
-            copy(command_file(folder, outcome.name), command_file(into, outcome.name))
+            write(command_file(into, outcome.name), commands_of(folder, outcome.name))
         store.add(with_tallies(part, missing))
         return len(missing)
 
@@ -55,8 +55,8 @@ def with_tallies(
         yield outcome, store.tallies(outcome.name)
 
 
-def copy(source: Path, target: Path) -> None:
-    """Copies a file atomically: the target is complete or missing."""
+def write(target: Path, text: bytes) -> None:
+    """Writes a file atomically: it is complete or missing."""
     unfinished = target.with_suffix(".unfinished")
-    shutil.copyfile(source, unfinished)
+    unfinished.write_bytes(text)
     os.replace(unfinished, target)

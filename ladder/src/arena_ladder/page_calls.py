@@ -4,6 +4,7 @@
     /games.json?bot=NAME&before=N&count=N   games that are done, the newest first
     /games/GAME.jsonl                    the command file of a game
     /games/GAME.transcript               its transcript, which the viewer shows
+    /seasons.json                        the seasons that have ended, with their standings
     /looks.json                          the colour and the mark of each bot
     /bots/NAME.json                      how a bot did
 """
@@ -24,9 +25,10 @@ from typing import Any
 from aiohttp import web
 
 from arena_ladder.feed import REST, Feed
-from arena_ladder.game_files import command_file
 from arena_ladder.history import games_of, ratings_over_time, record_of
+from arena_ladder.packs import commands_of
 from arena_ladder.pairing import GAME_NAME
+from arena_ladder.seasons import seasons_of
 from arena_ladder.standings import standings_of
 from arena_ladder.store import Store, StoreFault, open_store
 from arena_ladder.transcripts import NoTranscript, Transcripts
@@ -42,6 +44,7 @@ LAST = 10**17  # above each number of a game
 MOST_AT = 64  # letters
 SENDING_SECONDS = 120.0
 PIECE = 64 * 1024
+PLAIN = "text/plain; charset=utf-8"
 
 
 def files_of_page() -> dict[str, Path]:
@@ -98,6 +101,7 @@ class Calls:
             web.get("/standings.json", self.standings),
             web.get("/games.json", self.games),
             web.get("/looks.json", self.looks),
+            web.get("/seasons.json", self.seasons),
             web.get("/bots/{bot}.json", self.bot),
             web.get("/games/{game}.jsonl", self.commands),
             web.get("/games/{game}.transcript", self.transcript),
@@ -105,6 +109,9 @@ class Calls:
 
     async def standings(self, request: web.Request) -> web.Response:
         return web.json_response(await self.answers.get("standings", rows_of))
+
+    async def seasons(self, request: web.Request) -> web.Response:
+        return web.json_response(await self.answers.get("seasons", season_rows))
 
     async def looks(self, request: web.Request) -> web.Response:
         return web.json_response(self.feed.looks)
@@ -139,8 +146,9 @@ class Calls:
         return game
 
     async def commands(self, request: web.Request) -> web.StreamResponse:
-        path = command_file(self.folder, await self.game_in(request))
-        return web.FileResponse(path, headers={"Content-Type": "application/x-ndjson"})
+        game = await self.game_in(request)
+        text = await asyncio.to_thread(commands_of, self.folder, game)
+        return await send_text(request, text, "application/x-ndjson")
 
     async def transcript(self, request: web.Request) -> web.StreamResponse:
         try:
@@ -152,9 +160,9 @@ class Calls:
         return await send_text(request, text)
 
 
-async def send_text(request: web.Request, text: bytes) -> web.StreamResponse:
+async def send_text(request: web.Request, text: bytes, kind: str = PLAIN) -> web.StreamResponse:
     """Sends a text piece by piece, so that no slow reader has a copy of it in memory."""
-    response = web.StreamResponse(headers={"Content-Type": "text/plain; charset=utf-8"})
+    response = web.StreamResponse(headers={"Content-Type": kind})
     response.content_length = len(text)
     await response.prepare(request)
     async with asyncio.timeout(SENDING_SECONDS):
@@ -166,6 +174,11 @@ async def send_text(request: web.Request, text: bytes) -> web.StreamResponse:
 
 def rows_of(store: Store) -> list[dict[str, Any]]:
     return [standing.row() for standing in standings_of(store)]
+
+
+def season_rows(store: Store) -> list[dict[str, Any]]:
+    """The seasons that have ended, the newest first, with their standings."""
+    return [season.members for season in seasons_of(store)[::-1]]
 
 
 def number_in(query: Mapping[str, str], name: str, usual: int) -> int:
@@ -184,7 +197,7 @@ async def faults_as_answers(
     try:
         answer: web.StreamResponse = await handler(request)
         return answer
-    except (StoreFault, sqlite3.Error):
+    except (StoreFault, sqlite3.Error, FileNotFoundError):
         raise web.HTTPServiceUnavailable(text="the results can't be read now") from None
     except (ConnectionError, TimeoutError):
         if request.transport is not None:

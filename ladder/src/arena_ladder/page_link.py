@@ -13,6 +13,7 @@ import os
 import signal
 import socket
 import sys
+import time
 from collections.abc import Callable
 from contextlib import suppress
 from dataclasses import dataclass
@@ -29,7 +30,8 @@ TICK_SECONDS = 0.25
 START_SECONDS = 30.0
 HANG_SECONDS = 10.0  # without a sign of life
 CLOSING_SECONDS = 5.0
-MOST_STARTS = 6
+MOST_STARTS = 6  # within an hour
+HOUR = 3600.0
 LONGEST_LINE = 65_536  # from the page
 
 
@@ -183,16 +185,17 @@ class PageLink(News):
         self.page.send({"summary": self.summary(), **self.message()})
 
     async def keep(self) -> None:
-        """Starts another process when one ends or hangs, but not for ever."""
-        starts = 1
+        """Starts another process when one ends or hangs, but not too often."""
+        starts = [time.monotonic()]
         while (page := self.page) is not None:
             await page.watch()
             self.page = None
             await page.kill()
-            if starts == MOST_STARTS:
+            starts = [it for it in starts if it > time.monotonic() - HOUR]
+            if len(starts) == MOST_STARTS:
                 self.tell("the page ended too often; the games go on without it")
             else:
-                starts += 1
+                starts.append(time.monotonic())
                 await self.start_again()
 
     async def start_again(self) -> None:

@@ -10,7 +10,7 @@ from itertools import combinations, islice
 from arena_ladder.config import Config, ConfigFault
 from arena_ladder.draws import Draw
 
-GAME_NAME = re.compile(r"r[0-9]{4,6}-t[0-9]{3,7}")
+GAME_NAME = re.compile(r"r[0-9]{4,12}-t[0-9]{3,7}")
 MOST_GAMES = 1_000_000
 
 

@@ -4,13 +4,15 @@ from __future__ import annotations
 
 import asyncio
 import math
-from collections.abc import Sequence
+import threading
+from collections.abc import Awaitable, Sequence
 from concurrent.futures import ThreadPoolExecutor
 from contextlib import suppress
 from dataclasses import dataclass
 from pathlib import Path
 
 from arena_client import BLOCKS_OF_GAME, HostDied, Refused
+from arena_ladder import packs
 from arena_ladder.bots import BotClient, NoLook
 from arena_ladder.config import ENDLESS, Bot, Config
 from arena_ladder.endless import Endless
@@ -73,6 +75,7 @@ async def play(job: Job, store: Store, watches: Sequence[Watch]) -> None:
         asking = asyncio.create_task(ask_looks_again(context))
         try:
             run = Run(context, store, keeper, kept, job.ends_at)
+            run.pack()
             await run.play([fixture for fixture in fixtures if fixture.name not in done])
         finally:
             asking.cancel()
@@ -136,12 +139,16 @@ class Run:
         self.kept = kept
         self.ends_at = ends_at
         self.asking: set[asyncio.Task[None]] = set()
+        self.packing: set[asyncio.Task[None]] = set()
+        self.ends = threading.Event()
+        self.packing_lock = asyncio.Lock()
         self.changes: list[Change] = []  # of the roster
         self.said: set[str] = set()
         self.context = context
         self.store = store
         self.keeper = keeper
         self.storing = ThreadPoolExecutor(1, "store")
+        self.stored = store.count_games()
         self.ended = asyncio.Event()  # a game has ended
 
     async def play(self, fixtures: Sequence[Fixture]) -> None:
@@ -157,6 +164,8 @@ class Run:
         finally:
             for task in self.asking:
                 task.cancel()
+            self.ends.set()
+            await asyncio.gather(*self.packing, return_exceptions=True)
             self.storing.shutdown(cancel_futures=True)
 
     def source(self, fixtures: Sequence[Fixture]) -> Source:
@@ -221,8 +230,27 @@ class Run:
         added = (self.store.add, [(outcome, game.tallies)])
         await asyncio.get_running_loop().run_in_executor(self.storing, *added)
         self.ended.set()  # an endless ladder draws from the results that are stored
+        self.stored += 1
+        if self.stored % packs.GAMES == 0:
+            self.pack()
         await asyncio.get_running_loop().run_in_executor(self.storing, self.kept.keep, outcome.name)
         self.context.watch.end(outcome)
+
+    def pack(self) -> None:
+        """Packs the files of games that are done, in a thread, while others are played."""
+        work = asyncio.to_thread(
+            packs.pack_games, self.context.folder, self.stored, self.ends.is_set
+        )
+        task = asyncio.get_running_loop().create_task(self.packed(work))
+        self.packing.add(task)
+        task.add_done_callback(self.packing.discard)
+
+    async def packed(self, work: Awaitable[None]) -> None:
+        try:
+            async with self.packing_lock:
+                await work
+        except OSError as fault:
+            self.say_once(f"the files of games can't be packed: {fault}")
 
     async def play_one(self, fixture: Fixture) -> Game:
         """Plays a game; if its host dies, continues it in another host."""

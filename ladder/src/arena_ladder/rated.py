@@ -24,10 +24,11 @@ NEAR = 4  # bots for each other seat of a game, of which one is drawn
 
 @dataclass(frozen=True)
 class Change:
-    """A change of the roster: `add`, `remove`, `pause`, `resume`, `url` or `replace`.
+    """A change of the roster: `add`, `remove`, `pause`, `resume`, `url` or `replace`, or a new
+    `season` named `bot`, or `points` with which a bot begins.
 
     `results` is the number of results that were stored before it; `old` is the bot that a bot
-    replaces.
+    replaces, or the points.
     """
 
     number: int
@@ -147,6 +148,11 @@ class Rated:
             self.players.setdefault(change.bot, Player()).is_in = True
         elif change.what == "remove":
             self.players[change.bot].is_in = False
+        elif change.what == "season":
+            for player in self.players.values():
+                player.points = START
+        elif change.what == "points":  # of an earlier ladder
+            self.players[change.bot].points = int(change.old)
         elif change.what in ("pause", "resume"):
             self.players[change.bot].is_paused = change.what == "pause"
 

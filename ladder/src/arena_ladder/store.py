@@ -36,6 +36,9 @@ CREATE TABLE IF NOT EXISTS roster (
 CREATE TABLE IF NOT EXISTS drawn (
     number INTEGER PRIMARY KEY, game TEXT NOT NULL, results INTEGER NOT NULL,
     changes INTEGER NOT NULL, room INTEGER NOT NULL, bots TEXT NOT NULL);
+CREATE TABLE IF NOT EXISTS season (
+    number INTEGER PRIMARY KEY, name TEXT NOT NULL, first INTEGER NOT NULL, last INTEGER NOT NULL,
+    ended_at TEXT NOT NULL, standings TEXT NOT NULL);
 CREATE TABLE IF NOT EXISTS setting (name TEXT PRIMARY KEY, value TEXT NOT NULL) WITHOUT ROWID;
 CREATE TABLE IF NOT EXISTS snapshot (
     one INTEGER PRIMARY KEY CHECK (one = 1), drawn INTEGER NOT NULL, state TEXT NOT NULL);
@@ -305,9 +308,13 @@ class Store:
         return json.loads(row[0]) if row else None
 
     def keep_setting(self, name: str, value: Any) -> None:
-        row = (name, json.dumps(value))
         with self.base:
-            self.base.execute("INSERT OR REPLACE INTO setting VALUES (?, ?)", row)
+            self.put_setting(name, value)
+
+    def put_setting(self, name: str, value: Any) -> None:
+        """Keeps a value in the transaction that is open."""
+        row = (name, json.dumps(value))
+        self.base.execute("INSERT OR REPLACE INTO setting VALUES (?, ?)", row)
 
     def snapshot(self) -> tuple[int, dict[str, Any]] | None:
         """The state of `Rated` after the game of a number was drawn, if one was kept."""

@@ -39,27 +39,32 @@ CREATE {temp} TABLE IF NOT EXISTS played (
 CREATE {temp} TABLE IF NOT EXISTS last_missed (
     bot TEXT NOT NULL, number INTEGER NOT NULL, cause TEXT NOT NULL, moves INTEGER NOT NULL,
     PRIMARY KEY (bot, number, cause)) WITHOUT ROWID;
-CREATE {temp} TABLE IF NOT EXISTS summed (shift INTEGER NOT NULL);
+CREATE {temp} TABLE IF NOT EXISTS summed (shift INTEGER NOT NULL, first INTEGER NOT NULL);
 """
-FROM_ROWS = {  # the sums of the games that are stored
-    "total": "SELECT bot, result, COUNT(*), SUM(turns) FROM seat GROUP BY bot, result",
-    "total_death": "SELECT bot, cause, COUNT(*) FROM seat WHERE cause IS NOT NULL"
-    " GROUP BY bot, cause",
-    "total_missed": "SELECT bot, m.cause, SUM(moves) FROM missed AS m JOIN seat USING (game, seat)"
-    " GROUP BY bot, m.cause",
-    "total_latency": "SELECT bot, ms, SUM(moves) FROM latency JOIN seat USING (game, seat)"
-    " GROUP BY bot, ms",
+SEATS = "game AS g JOIN seat AS s ON s.game = g.name"
+FROM_ROWS = {  # the sums of the games behind number {first}, and lists of all games
+    "total": f"SELECT bot, result, COUNT(*), SUM(s.turns) FROM {SEATS}"
+    " WHERE g.rowid > {first} GROUP BY bot, result",
+    "total_death": f"SELECT bot, cause, COUNT(*) FROM {SEATS}"
+    " WHERE g.rowid > {first} AND cause IS NOT NULL GROUP BY bot, cause",
+    "total_missed": f"SELECT bot, m.cause, SUM(moves) FROM {SEATS}"
+    " JOIN missed AS m ON m.game = s.game AND m.seat = s.seat"
+    " WHERE g.rowid > {first} GROUP BY bot, m.cause",
+    "total_latency": f"SELECT bot, ms, SUM(moves) FROM {SEATS}"
+    " JOIN latency AS m ON m.game = s.game AND m.seat = s.seat"
+    " WHERE g.rowid > {first} GROUP BY bot, ms",
     "pair": "SELECT {block}, a.bot, b.bot,"
     " (SELECT COUNT(*) FROM seat AS c WHERE c.game = a.game) AS seats, COUNT(*),"
     " SUM(IFNULL(a.out, 1e9) > IFNULL(b.out, 1e9)), SUM(IFNULL(a.out, 1e9) = IFNULL(b.out, 1e9))"
     " FROM game AS g JOIN seat AS a ON a.game = g.name JOIN seat AS b ON b.game = a.game"
-    " AND a.bot < b.bot GROUP BY 1, 2, 3, 4",
+    " AND a.bot < b.bot WHERE g.rowid > {first} GROUP BY 1, 2, 3, 4",
     "played": "SELECT DISTINCT bot, g.rowid FROM game AS g JOIN seat ON seat.game = g.name",
     "last_missed": "SELECT bot, number, cause, moves FROM (SELECT bot, g.rowid AS number,"
     " m.cause AS cause, moves, DENSE_RANK() OVER (PARTITION BY bot ORDER BY g.rowid DESC) AS rank"
     " FROM missed AS m JOIN seat USING (game, seat) JOIN game AS g ON g.name = game)"
     f" WHERE rank <= {LAST_MISSES}",
 }
+OF_A_SEASON = ("total", "total_death", "total_missed", "total_latency", "pair")
 COMPARED = ("total", "total_death", "total_missed", "total_latency", "played")
 
 
@@ -103,15 +108,28 @@ class Sums:
         shift = 0
         while max(0, count - 1) >> shift >= MOST_BLOCKS:
             shift += 1
-        self.base.execute("INSERT INTO summed VALUES (?)", (shift,))
+        self.base.execute("INSERT INTO summed VALUES (?, 0)", (shift,))
         for block in (str(ALL), f"(g.rowid - 1) >> {shift}"):
-            self.base.execute(f"INSERT INTO pair {FROM_ROWS['pair'].format(block=block)}")
+            rows = FROM_ROWS["pair"].format(block=block, first=0)
+            self.base.execute(f"INSERT INTO pair {rows}")
         for table in FROM_ROWS.keys() - {"pair"}:
-            self.base.execute(f"INSERT INTO {table} {FROM_ROWS[table]}")
+            self.base.execute(f"INSERT INTO {table} {FROM_ROWS[table].format(first=0)}")
+
+    def first(self) -> int:
+        """The number of the game behind which the sums begin."""
+        (found,) = self.base.execute("SELECT first FROM summed").fetchone()
+        return int(found)
+
+    def begin_anew(self, first: int) -> None:
+        """Forgets the sums of the games up to a number, in the transaction that is open."""
+        for table in OF_A_SEASON:
+            self.base.execute(f"DELETE FROM {table}")
+        self.base.execute("UPDATE summed SET shift = 0, first = ?", (first,))
 
     def add(self, number: int, outcome: Outcome, tallies: Mapping[str, Tally]) -> None:
         """Adds a game, in the transaction that stores it; `number` is that of its row."""
-        block = (number - 1) >> self.shift_for(number)
+        at = number - self.first()
+        block = (at - 1) >> self.shift_for(at)
         for it in outcome.finishes:
             self.add_seat(number, it, tallies[it.bot])
         rows = [pair_of(one, other) for one, other in combinations(outcome.finishes, 2)]
@@ -120,8 +138,8 @@ class Sums:
             " games = games + 1, outlived = outlived + excluded.outlived,"
             " equal = equal + excluded.equal",
             [
-                (at, *names, len(outcome.finishes), *ends)
-                for at in (ALL, block)
+                (place, *names, len(outcome.finishes), *ends)
+                for place in (ALL, block)
                 for names, ends in rows
             ],
         )
@@ -179,8 +197,10 @@ class Sums:
 
     def fault(self) -> str:
         """Which sums are not those of the games, if any are not."""
-        wrong = [table for table in COMPARED if self.differs(table, FROM_ROWS[table])]
-        pairs = FROM_ROWS["pair"].format(block=str(ALL))
+        first = self.first()
+        rows = {table: FROM_ROWS[table].format(block=ALL, first=first) for table in FROM_ROWS}
+        wrong = [table for table in COMPARED if self.differs(table, rows[table])]
+        pairs = rows["pair"]
         if self.differs("(SELECT * FROM pair WHERE block = -1)", pairs):
             wrong.append("pair")
         return f"the sums in {', '.join(wrong)} are not those of the games" if wrong else ""

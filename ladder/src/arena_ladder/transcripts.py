@@ -7,9 +7,10 @@ import resource
 from collections import OrderedDict
 from contextlib import suppress
 from pathlib import Path
+from tempfile import TemporaryFile
 
 from arena_client import BLOCKS_OF_GAME
-from arena_ladder.game_files import command_file
+from arena_ladder.packs import commands_of
 
 MOST_BYTES = 32 * 1024 * 1024  # of a transcript
 MOST_KEPT = 64 * 1024 * 1024  # bytes of all that are kept
@@ -61,15 +62,17 @@ class Transcripts:
 
     async def make(self, game: str) -> bytes:
         """Runs the program, and reads what it writes."""
-        path = command_file(self.folder, game)
-        words = ("serve", str(path), "--blocks", str(BLOCKS_OF_GAME), "--workers", "1")
-        process = await asyncio.create_subprocess_exec(
-            str(self.program),
-            *words,
-            stdin=asyncio.subprocess.DEVNULL,
-            stdout=asyncio.subprocess.PIPE,
-            stderr=asyncio.subprocess.DEVNULL,
-        )
+        words = ("serve", "-", "--blocks", str(BLOCKS_OF_GAME), "--workers", "1")
+        with TemporaryFile() as commands:
+            commands.write(await asyncio.to_thread(commands_of, self.folder, game))
+            commands.seek(0)
+            process = await asyncio.create_subprocess_exec(
+                str(self.program),
+                *words,
+                stdin=commands,
+                stdout=asyncio.subprocess.PIPE,
+                stderr=asyncio.subprocess.DEVNULL,
+            )
         assert process.stdout is not None
         try:
             limit(process.pid)

@@ -1,0 +1,224 @@
+"""Tests of a ladder that runs for months: seasons, backups, packs, and folders of old versions."""
+
+from __future__ import annotations
+
+import json
+import shutil
+import sqlite3
+import time
+import zipfile
+from contextlib import closing
+from pathlib import Path
+from typing import Any
+
+import pytest
+from served import Served, complaints, run_ladder, start_play, write_config
+
+from arena_ladder import packs
+from arena_ladder.config import ENDLESS
+from arena_ladder.endless import name_of, number_of
+from arena_ladder.game_files import command_file
+from arena_ladder.pairing import GAME_NAME
+from arena_ladder.packs import commands_of, pack_games
+from arena_ladder.roster import change_roster
+from arena_ladder.store import open_store
+
+KEPT = Path(__file__).resolve().parent / "kept"
+NAMES = ("fleer", "hungry", "lazy", "seeker")
+SECONDS = 240
+
+
+def kept_folder(version: str, to: Path) -> Path:
+    """A folder as a released version left it: its database from its text, and its games."""
+    shutil.copytree(KEPT / version, to)
+    with closing(sqlite3.connect(to / "results.sqlite")) as base:
+        base.executescript((to / "results.sql").read_text())
+    (to / "results.sql").unlink()
+    (to / "running").mkdir(exist_ok=True)
+    return to
+
+
+def config_for(path: Path, folder: Path, bots: Served, **members: Any) -> Path:
+    """A configuration of the ladder of the kept folders."""
+    rules = {"folder": str(folder), "seed": 1, "width": 7, "height": 7, "turns": 30}
+    return write_config(path, [(it, bots.url(it)) for it in NAMES], **{**rules, **members})
+
+
+def rows_of(folder: Path, *words: str) -> dict[str, dict[str, int]]:
+    ran = run_ladder("standings", folder, *(words or ("--json",)))
+    assert ran.returncode == 0, ran.stderr
+    return {row["bot"]: row for row in json.loads(ran.stdout)}
+
+
+def assert_agrees(folder: Path, games: int, program: Path) -> None:
+    ran = run_ladder("check", folder, "--program", program)
+    assert ran.stdout == f"{games} of {games} games agree\n"
+
+
+def test_no_number_ends_an_endless_ladder() -> None:
+    for number in (1, 9_999, 999_999, 1_000_000, 123_456_789, ENDLESS):
+        assert GAME_NAME.fullmatch(name_of(number)) and number_of(name_of(number)) == number
+    assert ENDLESS > 64 * 86_400 * 365 * 100  # a game a second at each place, a century
+
+
+def test_ladder_goes_on_behind_the_old_last_number(
+    program: Path, small_bots: Served, tmp_path: Path
+) -> None:
+    """And where it ends, it says why."""
+    folder = kept_folder("1.1", tmp_path / "x")
+    with closing(sqlite3.connect(folder / "results.sqlite")) as base:
+        base.execute("UPDATE drawn SET number = 999999 WHERE number = 12")
+        base.commit()
+    config = config_for(tmp_path / "x.toml", folder, small_bots, pairing="rating")
+    ran = run_ladder("play", config, "--rounds", "1000002", "--program", program)
+    assert (ran.returncode, complaints(ran.stderr)) == (0, "")
+    with closing(open_store(folder)) as store:
+        assert store.has_game("r1000000-t001") and store.has_game("r1000002-t001")
+    ran = run_ladder("play", config, "--rounds", "14", "--program", program)
+    assert "it has its 14 games: --rounds, or `rounds`, lets it go on" in ran.stdout
+
+
+def test_folder_of_version_1_1_goes_on(program: Path, small_bots: Served, tmp_path: Path) -> None:
+    """Its standings are what they were, and all its games agree with the new ones."""
+    folder = kept_folder("1.1", tmp_path / "x")
+    old = json.loads((KEPT / "1.1.json").read_text())
+    assert list(rows_of(folder).values()) == old
+    assert_agrees(folder, 12, program)
+    config = config_for(tmp_path / "x.toml", folder, small_bots, pairing="rating")
+    ran = run_ladder("play", config, "--rounds", "20", "--program", program)
+    assert (ran.returncode, complaints(ran.stderr)) == (0, "")
+    assert_agrees(folder, 20, program)
+    assert sum(row["games"] for row in rows_of(folder).values()) == 40
+
+
+def test_ratings_of_version_1_0_are_points_to_begin_with(
+    program: Path, small_bots: Served, tmp_path: Path
+) -> None:
+    old = kept_folder("1.0", tmp_path / "old")
+    ratings = {bot: row["elo"] for bot, row in rows_of(old).items()}
+    assert len(set(ratings.values())) > 2
+    folder = tmp_path / "x"
+    config = config_for(tmp_path / "x.toml", folder, small_bots, pairing="rating")
+    played = [run_ladder("play", config, "--rounds", "1", "--program", program)]
+    ran = run_ladder("carry", old, folder)
+    assert ran.stdout.startswith("ladder: 4 bots have the points that they had in"), ran.stderr
+    points: dict[str, int] = {}
+    with closing(open_store(folder)) as store:
+        (first,) = store.outcomes()
+    change_roster(folder, lambda _, rated: points.update(points_of(rated)) or "")
+    assert points == ratings and len(first.finishes) == 2
+    played.append(run_ladder("play", config, "--rounds", "6", "--program", program))
+    assert [(it.returncode, complaints(it.stderr)) for it in played] == [(0, "")] * 2
+    assert_agrees(folder, 6, program)
+
+
+def points_of(rated: object) -> dict[str, int]:
+    return {name: it.points for name, it in rated.players.items()}  # type: ignore[attr-defined]
+
+
+def test_season_begins_while_the_ladder_plays(
+    program: Path, small_bots: Served, tmp_path: Path
+) -> None:
+    """Its standings count later games alone; those of the season before are kept."""
+    folder = tmp_path / "x"
+    config = config_for(tmp_path / "x.toml", folder, small_bots, pairing="rating")
+    playing = start_play(config, program, "--rounds", "60")
+    wait_for_games(folder, 10)
+    began = run_ladder("season", folder, "spring")
+    assert began.returncode == 0, began.stderr
+    error = playing.communicate(timeout=SECONDS)[1]
+    assert (playing.returncode, complaints(error)) == (0, "")
+    assert run_ladder("season", folder, "summer").returncode == 0
+    first, spring = rows_of(folder, "--season", "1"), rows_of(folder, "--season", "spring")
+    counts = [sum(row["games"] for row in rows.values()) for rows in (first, spring)]
+    assert sum(counts) == 120 and 20 <= counts[0] < 120
+    assert all(row["games"] == 0 and row["elo"] == 1500 for row in rows_of(folder).values())
+    assert_agrees(folder, 60, program)
+    ran = run_ladder("play", config, "--rounds", "64", "--program", program)
+    assert (ran.returncode, complaints(ran.stderr)) == (0, "")
+    assert sum(row["games"] for row in rows_of(folder).values()) == 8
+    assert_agrees(folder, 64, program)
+    assert "is named 'winter'" in run_ladder("standings", folder, "--season", "winter").stderr
+
+
+def wait_for_games(folder: Path, count: int) -> None:
+    """Waits until a ladder that plays has stored some games."""
+    ends = time.monotonic() + SECONDS
+    while time.monotonic() < ends:
+        if (folder / "results.sqlite").exists():
+            with closing(open_store(folder)) as store:
+                if store.count_games() >= count:
+                    return
+        time.sleep(0.1)
+    raise AssertionError("the ladder plays no games")
+
+
+def test_backup_is_whole_while_the_ladder_plays(
+    program: Path, small_bots: Served, tmp_path: Path
+) -> None:
+    """All games in its results agree, and it goes on by itself, also when it is restored."""
+    folder = tmp_path / "x"
+    config = config_for(tmp_path / "x.toml", folder, small_bots, pairing="rating")
+    playing = start_play(config, program, "--rounds", "80")
+    copies = []
+    for at in range(3):
+        wait_for_games(folder, 10 + 15 * at)
+        copy = tmp_path / f"copy{at}"
+        ran = run_ladder("backup", folder, copy)
+        assert ran.returncode == 0, ran.stderr
+        copies.append((copy, int(ran.stdout.split(" has ")[1].split()[0])))
+    assert playing.wait(SECONDS) == 0
+    for copy, games in copies:
+        assert_agrees(copy, games, program)
+    again = tmp_path / "again"
+    assert run_ladder("restore", copies[1][0], again).returncode == 0
+    more = config_for(tmp_path / "again.toml", again, small_bots, pairing="rating")
+    ran = run_ladder("play", more, "--rounds", "80", "--program", program)
+    assert (ran.returncode, complaints(ran.stderr)) == (0, "")
+    assert_agrees(again, 80, program)
+    assert "is there already" in run_ladder("backup", folder, again).stderr
+
+
+def test_games_are_packed_by_thousands_and_read_alike(
+    program: Path, small_bots: Served, tmp_path: Path, monkeypatch: pytest.MonkeyPatch
+) -> None:
+    folder = tmp_path / "x"
+    config = config_for(tmp_path / "x.toml", folder, small_bots, pairing="rating")
+    ran = run_ladder("play", config, "--rounds", "11", "--program", program)
+    assert ran.returncode == 0, ran.stderr
+    games = {path.stem: path.read_bytes() for path in (folder / "games").iterdir()}
+    monkeypatch.setattr(packs, "GAMES", 4)
+    pack_games(folder, 11, lambda: False)
+    names = sorted(path.name for path in (folder / "games").iterdir())
+    assert [name for name in names if name.endswith("zip")] == ["000001.zip", "000002.zip"]
+    assert len(names) == 2 + 3
+    assert {name: commands_of(folder, name) for name in games} == games
+    with pytest.raises(FileNotFoundError):
+        commands_of(folder, "r9999-t001")
+    with zipfile.ZipFile(folder / "games" / "000002.zip") as archive:
+        again = archive.namelist()[0]
+    (folder / "games" / again).write_bytes(games[again.partition(".")[0]])  # it was killed there
+    pack_games(folder, 11, lambda: False)
+    assert not (folder / "games" / again).exists()
+
+
+def test_packs_of_a_folder_are_checked_exported_and_backed_up(
+    program: Path, tmp_path: Path
+) -> None:
+    """A folder of version 1.1, whose games are packed as if they were a thousand."""
+    folder = kept_folder("1.1", tmp_path / "x")
+    with closing(open_store(folder)) as store:
+        names = [it.name for it in store.outcomes_by_end()]
+    before = run_ladder("export", folder, names[3], "--program", program)
+    with zipfile.ZipFile(folder / "games" / "000001.zip", "w") as archive:
+        for name in names:
+            archive.write(command_file(folder, name), f"{name}.jsonl")
+            command_file(folder, name).unlink()
+    assert_agrees(folder, 12, program)
+    after = run_ladder("export", folder, names[3], "--program", program)
+    assert after.stdout == before.stdout != ""
+    assert run_ladder("backup", folder, tmp_path / "copy").returncode == 0
+    assert_agrees(tmp_path / "copy", 12, program)
+    (folder / "games" / "000001.zip").write_bytes(b"no archive")
+    ran = run_ladder("check", folder, "--program", program)
+    assert ran.returncode == 1 and "the pack is damaged" in ran.stdout
