@@ -1,4 +1,4 @@
-"""Tests of where bots may be, of long addresses, and of the command that is run with each result."""
+"""Tests of where bots may be, of long addresses, and of the command for each result."""
 
 from __future__ import annotations
 
