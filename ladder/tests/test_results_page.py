@@ -193,6 +193,9 @@ def test_transcripts_have_limits(tmp_path: Path, monkeypatch: pytest.MonkeyPatch
     """What is too long, too slow, or one request too many is refused; old ones are forgotten."""
     monkeypatch.setattr(transcripts, "MOST_BYTES", 1000)
     monkeypatch.setattr(transcripts, "MOST_KEPT", 1200)
+    (tmp_path / "games").mkdir()
+    for at in range(9):
+        (tmp_path / "games" / f"r0001-t00{at}.jsonl").write_text(f"game {at}")
 
     async def fault_of(script: str) -> str:
         made = Transcripts(tmp_path, program_that(tmp_path, script))
@@ -207,12 +210,12 @@ def test_transcripts_have_limits(tmp_path: Path, monkeypatch: pytest.MonkeyPatch
         monkeypatch.setattr(transcripts, "SERVE_SECONDS", 0.2)
         assert await fault_of("exec sleep 60") == "arena serve took too long"
         monkeypatch.setattr(transcripts, "SERVE_SECONDS", 60)
-        made = Transcripts(tmp_path, program_that(tmp_path, 'printf "%500s" "$2"'))
+        made = Transcripts(tmp_path, program_that(tmp_path, "printf %500s; cat"))
         asked = [made.of(f"r0001-t00{at}") for at in range(9)]
         found = await asyncio.gather(*asked, return_exceptions=True)
         assert [isinstance(it, NoTranscript) and it.is_busy for it in found] == [False] * 8 + [True]
         assert list(made.kept) == ["r0001-t006", "r0001-t007"]
-        assert (await made.of("r0001-t006")).endswith(b"games/r0001-t006.jsonl")
+        assert (await made.of("r0001-t006")).endswith(b"  game 6")
 
     asyncio.run(work())
 

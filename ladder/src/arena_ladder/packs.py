@@ -45,7 +45,9 @@ def commands_of(folder: Path, name: str) -> bytes:
 
 
 def number_of(folder: Path, name: str) -> int | None:
-    """The number as which the result of a game was stored."""
+    """The number as which the result of a game was stored, if it was."""
+    if not (folder / "results.sqlite").is_file():
+        return None
     place = f"{(folder / 'results.sqlite').resolve().as_uri()}?mode=ro"
     with closing(sqlite3.connect(place, uri=True, timeout=60)) as base:
         row = base.execute("SELECT rowid FROM game WHERE name = ?", (name,)).fetchone()

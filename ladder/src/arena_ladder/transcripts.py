@@ -63,8 +63,12 @@ class Transcripts:
     async def make(self, game: str) -> bytes:
         """Runs the program, and reads what it writes."""
         words = ("serve", "-", "--blocks", str(BLOCKS_OF_GAME), "--workers", "1")
+        try:
+            text = await asyncio.to_thread(commands_of, self.folder, game)
+        except OSError as fault:
+            raise NoTranscript(f"its file can't be read: {fault.strerror}") from None
         with TemporaryFile() as commands:
-            commands.write(await asyncio.to_thread(commands_of, self.folder, game))
+            commands.write(text)
             commands.seek(0)
             process = await asyncio.create_subprocess_exec(
                 str(self.program),
