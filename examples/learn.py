@@ -34,7 +34,7 @@ def features(games, planes):
     free, heads = games.free_steps(), games.heads
     to = heads[:, :, None] + STEPS
     taken = np.ones((len(planes), SIDE + 4, SIDE + 4), bool)
-    taken[:, 2:-2, 2:-2] = planes[:, 1:].any(axis=1)
+    taken[:, 2:-2, 2:-2] = planes[:, 1 : 1 + SEATS].any(axis=1)
     game = np.arange(len(planes))[:, None, None, None]
     around = np.clip(to[:, :, :, None] + STEPS + 2, 0, SIDE + 3)
     room = (~taken[game, around[..., 1], around[..., 0]]).sum(axis=3)
@@ -58,14 +58,14 @@ class Learner:
 
     def act(self):
         """Draws a direction for each seat, and returns it with the gradient of its logarithm."""
-        given = features(self.env.games, self.seen["planes"])
+        given = features(self.env.games, self.seen)
         scores = given @ self.weights
         odds = np.exp(scores - scores.max(axis=-1, keepdims=True))
         odds /= odds.sum(axis=-1, keepdims=True)
         drawn = (odds.cumsum(axis=-1) < self.rng.random((GAMES, SEATS, 1))).sum(axis=-1).clip(0, 3)
         chosen = np.take_along_axis(given, drawn[..., None, None], 2)[:, :, 0]
         slope = chosen - (odds[..., None] * given).sum(axis=2)
-        return drawn, slope * self.seen["alive"][..., None]
+        return drawn, slope * self.env.games.alive[..., None]
 
     def update(self):
         """Plays some turns, and moves the weights once."""

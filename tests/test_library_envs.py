@@ -36,7 +36,7 @@ def make(request, rules):
 
 
 def same(one, other):
-    """Whether two observations are equal."""
+    """Whether two values of an answer are equal."""
     if isinstance(one, dict):
         return one.keys() == other.keys() and all(same(one[it], other[it]) for it in one)
     return np.array_equal(one, other)
@@ -62,14 +62,12 @@ class TestVectorApi:
         both = env.observation_space, env.action_space
         for one, all_ in zip(single, both):
             assert spaces.batch_space(one, env.num_envs) == all_
+        assert single[0].shape == (7, 8, 7) and single[0].dtype == np.uint8
+        assert both[0].shape == (env.num_envs, 7, 8, 7)
         if make.__name__ == "VectorEnv":
             assert single[1] == spaces.MultiDiscrete([4, 4])
-            assert set(single[0]) == {"planes", "health", "length", "alive"}
-            assert single[0]["planes"].shape == (3, 8, 7)
-            assert both[0]["planes"].shape == (3, 3, 8, 7)
         else:
             assert single[1] == spaces.Discrete(4) and both[1].shape == (6,)
-            assert (single[0].shape, both[0].shape) == ((7, 8, 7), (6, 7, 8, 7))
 
     def test_reset_and_step(self, make):
         env = make(5, seed=1, seats=3, width=7, height=7)
@@ -101,10 +99,9 @@ class TestVectorApi:
 
     def test_copy_false_writes_the_same_memory(self, make):
         env = make(4, seed=1, seats=2, copy=False)
-        planes = lambda seen: seen["planes"] if isinstance(seen, dict) else seen
-        first = planes(env.reset()[0])
+        first = env.reset()[0]
         before = first.copy()
-        second = planes(env.step(np.zeros(env.action_space.shape, int))[0])
+        second = env.step(np.zeros(env.action_space.shape, int))[0]
         assert np.shares_memory(first, second) and not np.array_equal(first, before)
 
     def test_seeds(self, make, spaces):
@@ -232,9 +229,8 @@ class TestVectorEnv:
     def check_seen(games, seen):
         """What is seen, from the lists of one game and the seats of all."""
         alive = games.alive
-        assert (seen["alive"] == alive).all()
-        assert (seen["health"] == games.health * alive).all()
-        assert (seen["length"] == games.lengths * alive).all()
+        assert (seen[:, 5:9] == (games.health * alive)[:, :, None, None]).all()
+        assert (seen[:, 9:] == (games.lengths * alive)[:, :, None, None]).all()
         wanted = np.zeros((5, 11, 11), "u1")
         for x, y in games.food(7):
             wanted[0, y, x] = 1
@@ -242,7 +238,7 @@ class TestVectorEnv:
             body = games.body(7, seat)
             for number, (x, y) in reversed(list(enumerate(body))):
                 wanted[1 + seat, y, x] = len(body) - number
-        assert (seen["planes"][7] == wanted).all()
+        assert (seen[7, :5] == wanted).all()
 
     def test_the_last_turn_is_a_truncation(self, rules):
         env = rules.VectorEnv(2, seed=1, seats=2)
@@ -257,7 +253,12 @@ class TestVectorEnv:
     def test_without_planes(self, rules):
         env = rules.VectorEnv(3, seed=1, observe=False)
         seen, _ = env.reset()
-        assert not seen["planes"].any() and (seen["health"] == 100).all()
+        assert not seen.any() and seen.shape == (3, 13, 11, 11)
+        few, all_ = rules.VectorEnv(3, seed=1, scalars=False), rules.VectorEnv(3, seed=1)
+        assert few.single_observation_space.shape == (5, 11, 11)
+        assert np.array_equal(few.reset()[0], all_.reset()[0][:, :5])
+        actions = np.ones((3, 4), int)
+        assert np.array_equal(few.step(actions)[0], all_.step(actions)[0][:, :5])
 
 
 class TestSeatEnv:
@@ -272,12 +273,11 @@ class TestSeatEnv:
         for _ in range(50):
             seen = seen.reshape(40, 3, 10, 11, 11)
             for own in range(3):
-                assert (seen[:, own, 0] == all_["planes"][:, 0]).all()
+                assert (seen[:, own, 0] == all_[:, 0]).all()
                 for place, other in enumerate(order[own]):
-                    assert (seen[:, own, 1 + place] == all_["planes"][:, 1 + other]).all()
-                    health, length = seen[:, own, 4 + place], seen[:, own, 7 + place]
-                    assert (health == all_["health"][:, other, None, None]).all()
-                    assert (length == all_["length"][:, other, None, None]).all()
+                    for first in (1, 4, 7):  # snakes, health, lengths
+                        mine, theirs = seen[:, own, first + place], all_[:, first + other]
+                        assert (mine == theirs).all()
             actions = rng.integers(0, 4, 120)
             seen, rewards, _, _, infos = seats.step(actions)
             all_, wanted, _, _, _ = whole.step(actions.reshape(40, 3))
@@ -373,7 +373,7 @@ class TestStarts:
     def test_no_food_in_constrictor(self, rules):
         env = rules.VectorEnv(3, seed=1, mode="constrictor", seats=2)
         seen, _ = env.reset()
-        assert not seen["planes"][:, 0].any() and not env.games.over.any()
+        assert not seen[:, 0].any() and not env.games.over.any()
 
 
 class TestParallelEnv:
@@ -513,12 +513,9 @@ class TestSpaces:
         assert np.zeros((2, 3)) not in space
         assert space == mine.Box(0, 255, (2, 3), "uint8") != mine.Box(0, 9, (2, 3), "uint8")
 
-    def test_dict_and_batches(self, mine):
-        space = mine.Dict({"a": mine.Discrete(4), "b": mine.Box(0, 9, (2,), "uint8")})
-        assert space.sample() in space and set(space) == {"a", "b"} and len(space) == 2
-        assert {"a": 1} not in space
-        batch = mine.batch_space(space, 3)
-        assert batch["a"] == mine.MultiDiscrete([4, 4, 4]) and batch["b"].shape == (3, 2)
+    def test_batches(self, mine):
+        assert mine.batch_space(mine.Discrete(4), 3) == mine.MultiDiscrete([4, 4, 4])
+        assert mine.batch_space(mine.Box(0, 9, (2,), "uint8"), 3).shape == (3, 2)
         nested = mine.batch_space(mine.MultiDiscrete([4, 4]), 3)
         assert nested.shape == (3, 2) and (nested.high == 3).all() and nested.sample() in nested
 

@@ -37,7 +37,6 @@ class OnePass:
     ) -> None:
         self.games, self.lists = games, (moves, words, *firsts)
         self._lent = [lent(it) for it in self.lists]
-        self._each = (1 + games.seats) * games.height * games.width
         self._call: Any = getattr(library, games._prefix + "advance", None)
         self._whole = self._range(0, games.count)
         self._ranges = {low: self._range(low, count) for low, count in games._ranges}
@@ -77,10 +76,10 @@ class OnePass:
         if self._call is None:
             self._run_by_steps(planes)
             return
-        games, each = self.games, self._each
-        at, size = NOTHING.at, 0
+        games, at, each, size = self.games, NOTHING.at, 1, 0
         if planes is not None:
-            at, size = planes.__array_interface__["data"][0], each
+            each = size = planes.size // games.count
+            at = planes.__array_interface__["data"][0]
         if games._pool is None:
             orders, firsts = self._whole
             self._call(games._address, games.count, orders, firsts, at, games.count * size, each)
@@ -98,7 +97,8 @@ class OnePass:
         if np.count_nonzero(which):
             self.games.start(starts, food, which)
         if planes is not None:
-            self.games._show(planes.__array_interface__["data"][0], self._each)
+            each = planes.size // self.games.count
+            self.games._show(planes.__array_interface__["data"][0], each)
 
 
 class Core:
@@ -119,7 +119,6 @@ class Core:
         self._which = np.zeros(self.count, bool)
         self.rng: np.random.Generator | None = None
         self._layouts: tuple[np.ndarray, np.ndarray] | None = None
-        self._plane_bytes = (1 + self.seats) * games.height * games.width
         self._lay_out_heads()
 
     def _lay_out_heads(self) -> None:
@@ -173,7 +172,7 @@ class Core:
     def turn(self, planes: np.ndarray | None) -> np.ndarray:
         """A turn of all games by `moves`, and new games where one had ended, which are returned.
 
-        Writes the planes of all, (count, 1 + seats, height, width).
+        Writes the planes of all as `show` does.
         """
         assert self.rng is not None
         self._words[:] = self.rng.integers(0, 1 << 32, self._words.shape, np.uint32)
@@ -207,8 +206,18 @@ class Core:
         return self._turn.copy()
 
     def show(self, into: np.ndarray) -> None:
-        """Writes the planes of all games into an array (count, 1 + seats, height, width)."""
-        self.games._show(into.__array_interface__["data"][0], self._plane_bytes)
+        """Writes the planes of all games into an array (count, planes, height, width), of which
+        the first 1 + seats are written."""
+        self.games._show(into.__array_interface__["data"][0], into.size // self.count)
+
+    def show_seats(self, into: np.ndarray) -> None:
+        """Writes planes of health and of length, at most 255, behind those of the snakes; both are
+        0 for a snake that is out."""
+        seats = self.seats
+        health = self._seats["health"] * self.alive
+        length = np.minimum(self._seats["parts"], 255).astype("u1") * self.alive
+        into[:, 1 + seats : 1 + 2 * seats] = health[:, :, None, None]
+        into[:, 1 + 2 * seats :] = length[:, :, None, None]
 
     def infos(self) -> dict[str, np.ndarray]:
         """Who lives, and why who died, by game and seat; the turn of each game."""

@@ -14,7 +14,7 @@ from arena_rules.buffers import number
 from arena_rules.core import Core, refuse_options
 from arena_rules.library import CAUSES
 from arena_rules.seats import SeatView
-from arena_rules.spaces import Discrete, ParallelBase, game_space, generator, seat_space
+from arena_rules.spaces import Discrete, ParallelBase, generator, planes_space
 from arena_rules.vector import RENDER_MODES
 
 STRAIGHT_ON = 4
@@ -60,9 +60,9 @@ class ParallelEnv(ParallelBase):  # type: ignore[misc]
         self.possible_agents = [f"snake_{seat}" for seat in range(self.core.seats)]
         self.agents: list[str] = []
         sides = (self.core.seats, self.games.height, self.games.width)
-        self.observation_spaces = {agent: seat_space(*sides) for agent in self.possible_agents}
+        self.observation_spaces = {agent: planes_space(*sides) for agent in self.possible_agents}
         self.action_spaces = {agent: Discrete(4) for agent in self.possible_agents}
-        self.state_space = game_space(*sides)
+        self.state_space = planes_space(*sides)
 
     def observation_space(self, agent: str) -> Any:
         """The space of an agent's observations: the same object each time."""
@@ -132,16 +132,12 @@ class ParallelEnv(ParallelBase):  # type: ignore[misc]
         self.agents = [it for it in self.agents if not (ended[it] or truncated[it])]
         return seen, rewards, ended, truncated, infos
 
-    def state(self) -> dict[str, np.ndarray]:
-        """The whole game, in `state_space`."""
-        core = self.core
-        core.show(self._view.planes)
-        return {
-            "planes": self._view.planes[0].copy(),
-            "health": (core.seat_numbers("health") * core.alive)[0],
-            "length": (core.seat_numbers("parts") * core.alive)[0],
-            "alive": core.alive[0].view("u1").copy(),
-        }
+    def state(self) -> np.ndarray:
+        """The whole game as in `VectorEnv`, in `state_space`: the seats in their order."""
+        planes = np.empty((1, *self.state_space.shape), "u1")
+        self.core.show(planes)
+        self.core.show_seats(planes)
+        return planes[0]
 
     def render(self) -> Any:
         """The board as text or as a picture, by `render_mode`; None without one."""

@@ -8,7 +8,7 @@ from typing import Any
 import numpy as np
 
 from arena_rules.core import masks
-from arena_rules.spaces import Discrete, batch_space, seat_space
+from arena_rules.spaces import Discrete, batch_space, planes_space
 from arena_rules.vector import Environments
 
 
@@ -72,7 +72,9 @@ class SeatEnv(Environments):
         super().__init__(games, seed, words, render_mode, settings)
         core = self.core
         self.num_envs = core.count * core.seats
-        self.single_observation_space = seat_space(core.seats, core.games.height, core.games.width)
+        self.single_observation_space = planes_space(
+            core.seats, core.games.height, core.games.width
+        )
         self.single_action_space = Discrete(4)
         self.observation_space = batch_space(self.single_observation_space, self.num_envs)
         self.action_space = batch_space(self.single_action_space, self.num_envs)

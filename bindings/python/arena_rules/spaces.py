@@ -13,7 +13,6 @@ try:
     from gymnasium.vector.utils import batch_space
 
     Box: Any = _spaces.Box
-    Dict: Any = _spaces.Dict
     Discrete: Any = _spaces.Discrete
     MultiDiscrete: Any = _spaces.MultiDiscrete
     HAS_GYMNASIUM = True
@@ -25,7 +24,7 @@ except ImportError:
         generator,
     )
 
-    Box, Dict = standins.Box, standins.Dict
+    Box = standins.Box
     Discrete, MultiDiscrete = standins.Discrete, standins.MultiDiscrete
     HAS_GYMNASIUM = False
 
@@ -37,7 +36,6 @@ except ImportError:
 __all__ = [
     "AutoresetMode",
     "Box",
-    "Dict",
     "Discrete",
     "HAS_GYMNASIUM",
     "MultiDiscrete",
@@ -48,18 +46,6 @@ __all__ = [
 ]
 
 
-def game_space(seats: int, height: int, width: int) -> Any:
-    """What is seen of a whole game."""
-    return Dict(
-        {
-            "planes": Box(0, 255, (1 + seats, height, width), "uint8"),
-            "health": Box(0, 100, (seats,), "uint8"),
-            "length": Box(0, 65_535, (seats,), "uint16"),
-            "alive": Box(0, 1, (seats,), "uint8"),
-        }
-    )
-
-
-def seat_space(seats: int, height: int, width: int) -> Any:
-    """What a seat sees of its game, in planes."""
-    return Box(0, 255, (1 + 3 * seats, height, width), "uint8")
+def planes_space(seats: int, height: int, width: int, scalars: bool = True) -> Any:
+    """Planes of the food and of each snake; with `scalars` also those of health and of length."""
+    return Box(0, 255, (1 + (3 if scalars else 1) * seats, height, width), "uint8")

@@ -6,7 +6,7 @@ copied; where the packages are installed `spaces.py` takes theirs.
 
 from __future__ import annotations
 
-from collections.abc import Mapping, Sequence
+from collections.abc import Sequence
 from enum import Enum
 from typing import Any
 
@@ -157,47 +157,8 @@ class MultiDiscrete(Space):
         return f"MultiDiscrete({self.nvec})"
 
 
-class Dict(Space, Mapping):
-    """gymnasium.spaces.Dict: a space for each name."""
-
-    def __init__(self, spaces: Mapping[str, Any], seed: Any = None) -> None:
-        self.spaces = dict(spaces)
-        super().__init__(None, None, seed)
-
-    def sample(self, mask: Any = None, probability: Any = None) -> dict[str, Any]:
-        return {name: space.sample() for name, space in self.spaces.items()}
-
-    def seed(self, seed: Any = None) -> Any:
-        return {name: space.seed(seed) for name, space in self.spaces.items()}
-
-    def contains(self, x: Any) -> bool:
-        if not isinstance(x, dict) or x.keys() != self.spaces.keys():
-            return False
-        return all(x[name] in space for name, space in self.spaces.items())
-
-    def __contains__(self, x: Any) -> bool:
-        return self.contains(x)
-
-    def __getitem__(self, name: str) -> Any:
-        return self.spaces[name]
-
-    def __iter__(self) -> Any:
-        return iter(self.spaces)
-
-    def __len__(self) -> int:
-        return len(self.spaces)
-
-    def _key(self) -> tuple[Any, ...]:
-        return (self.spaces,)
-
-    def __repr__(self) -> str:
-        return f"Dict({', '.join(f'{name!r}: {space}' for name, space in self.spaces.items())})"
-
-
 def batch_space(space: Any, n: int = 1) -> Any:
     """gymnasium.vector.utils.batch_space: the space of n values side by side."""
-    if isinstance(space, Dict):
-        return Dict({name: batch_space(it, n) for name, it in space.spaces.items()})
     if isinstance(space, Discrete):
         return MultiDiscrete(np.full(n, space.n))
     if isinstance(space, MultiDiscrete):

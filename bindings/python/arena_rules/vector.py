@@ -8,7 +8,7 @@ import numpy as np
 
 from arena_rules import render as drawing
 from arena_rules.core import LAST_TURN, Core, masks, refuse_options
-from arena_rules.spaces import AutoresetMode, MultiDiscrete, VectorBase, batch_space, game_space
+from arena_rules.spaces import AutoresetMode, MultiDiscrete, VectorBase, batch_space, planes_space
 
 __all__ = ["LAST_TURN", "VectorEnv"]
 RENDER_MODES = ["rgb_array", "ansi"]
@@ -68,15 +68,16 @@ class VectorEnv(Environments):
     """Each environment is a game, and an action has a direction for each seat: (num_envs, seats).
 
     After a game has ended, the next step starts another in its place and ignores the action
-    (`AutoresetMode.NEXT_STEP`). An observation is a dict of `planes` (num_envs, 1 + seats, height,
-    width), see `Games.planes`, and of `health`, `length` and `alive`, each (num_envs, seats);
-    health and length of a snake that is out are 0. With `observe=False` planes are not written: they are
-    zeros. Rewards are (num_envs, seats): 1 for the last one alive, -1 in the turn in which a snake
-    goes out. A game that reaches turn 10,000 is truncated. Infos have `alive`, `cause`, `killer`
-    (255 for none) and `turn`, and for each the mask that gymnasium has.
+    (`AutoresetMode.NEXT_STEP`). Observations are planes of bytes (num_envs, 1 + 3 * seats, height,
+    width): the food; the snake of each seat, see `Games.planes`; then for each seat a plane of its
+    health, and for each one of its length, at most 255, both 0 for a snake that is out. With
+    `scalars=False` there are no planes of health and length, and with `observe=False` none is
+    written: all are zeros. Rewards are (num_envs, seats): 1 for the last one alive, -1 in the turn
+    in which a snake goes out. A game that reaches turn 10,000 is truncated. Infos have `alive`,
+    `cause`, `killer` (255 for none) and `turn`, and for each the mask that gymnasium has.
 
     Observations and infos stay as they are when the games go on. With `copy=False` that is NOT so:
-    each call writes the planes of the last one anew.
+    each call writes the observations of the last one anew.
     """
 
     def __init__(
@@ -86,40 +87,36 @@ class VectorEnv(Environments):
         seed: int | None = None,
         words: int = 2,
         observe: bool = True,
+        scalars: bool = True,
         copy: bool = True,
         render_mode: str | None = None,
         **settings: Any,
     ) -> None:
         super().__init__(num_envs, seed, words, render_mode, settings)
-        self.num_envs, self._observe, self._copy = self.core.count, observe, copy
-        games = self.games
-        self.single_observation_space = game_space(self.seats, games.height, games.width)
+        self.num_envs, self._observe, self._scalars = self.core.count, observe, scalars
+        sides = (self.games.height, self.games.width)
+        self.single_observation_space = planes_space(self.seats, *sides, scalars)
         self.single_action_space = MultiDiscrete([4] * self.seats)
         self.observation_space = batch_space(self.single_observation_space, self.num_envs)
         self.action_space = batch_space(self.single_action_space, self.num_envs)
-        self._shape = (self.num_envs, 1 + self.seats, games.height, games.width)
-        self._planes = np.zeros(0 if copy else self._shape, "u1")
+        self._shape = (self.num_envs, *self.single_observation_space.shape)
+        self._kept = None if copy else np.zeros(self._shape, "u1")
         self._masks = masks(self.num_envs)
 
     def _room(self) -> np.ndarray:
-        """Where the planes of a call are written."""
-        if not self._copy:
-            return self._planes
+        """Where the observations of a call are written."""
+        if self._kept is not None:
+            return self._kept
         return np.empty(self._shape, "u1") if self._observe else np.zeros(self._shape, "u1")
 
-    def _observed(self, planes: np.ndarray) -> dict[str, np.ndarray]:
-        core = self.core
-        alive = core.alive
-        return {
-            "planes": planes,
-            "health": core.seat_view("health") * alive,
-            "length": core.seat_view("parts") * alive,
-            "alive": alive.astype("u1"),
-        }
+    def _observed(self, planes: np.ndarray) -> np.ndarray:
+        if self._observe and self._scalars:
+            self.core.show_seats(planes)
+        return planes
 
     def reset(
         self, *, seed: int | None = None, options: dict[str, Any] | None = None
-    ) -> tuple[dict[str, np.ndarray], dict[str, Any]]:
+    ) -> tuple[np.ndarray, dict[str, Any]]:
         """Starts every game. Returns observations and infos."""
         self._begin(seed, options)
         planes = self._room()
@@ -127,7 +124,9 @@ class VectorEnv(Environments):
             self.core.show(planes)
         return self._observed(planes), {**self.core.infos(), **self._masks}
 
-    def step(self, actions: Any) -> tuple[Any, np.ndarray, np.ndarray, np.ndarray, dict[str, Any]]:
+    def step(
+        self, actions: Any
+    ) -> tuple[np.ndarray, np.ndarray, np.ndarray, np.ndarray, dict[str, Any]]:
         """Plays a turn. Returns observations, rewards, terminations, truncations and infos."""
         core = self.core
         self._take(actions, (self.num_envs, self.seats))
