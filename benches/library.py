@@ -5,8 +5,8 @@ drawn games of four snakes on 11 by 11 cells.
     benches/library.py [--games N] [--runs R] [--seconds S] [--only PART..]
 
 PART is c, rust, python or environments. It needs gcc, for Rust cargo, for Python numpy, and
-bindings/build to have been run. The times are of the processor (those of Rust and of several
-threads of wall time, S seconds each), the least of R runs.
+bindings/build to have been run. The times are of the processor (those of several threads of wall
+time, S seconds each), the least of R runs.
 """
 import argparse
 import random

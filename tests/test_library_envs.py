@@ -128,12 +128,27 @@ class TestVectorApi:
         env.reset(seed=11)
         rng = np.random.Generator(np.random.PCG64(11))
         starts, food = layouts(rng, 11, 11, 2, "standard")
-        games, drawn = Games(6, seats=2, min_food=3), rng.integers(0, 1024, 6)
+        games, drawn = Games(6, seats=2, min_food=3), rng.integers(0, 1024, 4096)[:6]
         games.start(starts[drawn], food[drawn])
         assert bytes(games.memory) == bytes(env.games.memory)
         env.step(np.zeros(env.action_space.shape, int))
-        games.step(np.zeros((6, 2), int), rng.integers(0, 1 << 32, (6, 2), np.uint32))
+        words = rng.integers(0, 1 << 32, (682, 6, 2), np.uint32)
+        games.step(np.zeros((6, 2), int), words[0])
         assert bytes(games.memory) == bytes(env.games.memory)
+        env.step(np.ones(env.action_space.shape, int))
+        games.step(np.ones((6, 2), int), words[1])
+        assert bytes(games.memory) == bytes(env.games.memory) and games.turns.all()
+
+    def test_actions_of_each_type(self, make):
+        env = make(3, seed=1, seats=2)
+        env.reset()
+        for number, dtype in enumerate(("u1", "i1", "i4", "i8", "u8", ">i2")):
+            env.step(np.full(env.action_space.shape, 3 * (number % 2), dtype))
+            assert set(env.core.moves.ravel().tolist()) == {3 * (number % 2)}
+        env.step([[1, 2]] * 3 if make.__name__ == "VectorEnv" else [1, 2] * 3)
+        assert env.core.moves.tolist() == [[1, 2]] * 3
+        with pytest.raises(ValueError, match="may be 0 to 3"):
+            env.step(np.full(env.action_space.shape, (1 << 64) - 1, "u8"))
 
     def test_refusals(self, make, rules):
         env = make(2, seats=2)

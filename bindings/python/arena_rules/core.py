@@ -2,6 +2,7 @@
 
 from __future__ import annotations
 
+from collections.abc import Iterator
 from ctypes import byref
 from typing import Any
 
@@ -14,6 +15,10 @@ from arena_rules.starts import check_seats, layouts
 
 LAST_TURN = 10_000
 MOST_WORDS = 32
+BLOCK = 4096
+FEW = 64  # games whose heads are read where they are
+# Numbers as arrays, which numpy compares with faster than with Python's.
+LAST, BEYOND, MOST_LENGTH = np.array(LAST_TURN, "u2"), np.array(~3), np.array(255, "u2")
 INFOS = ("alive", "cause", "killer", "turn")
 
 
@@ -104,9 +109,11 @@ class OnePass:
 class Core:
     """Games that begin anew when they have ended.
 
-    All that is drawn comes from one generator: after it is set, LAYOUTS first boards; whenever
-    games begin, the number of a layout for each of them, `integers(0, LAYOUTS, games)`; in each
-    turn the words of the food, `integers(0, 2**32, (count, words), uint32)`, before these.
+    All that is drawn comes from one generator, in blocks: after it is set, LAYOUTS first boards.
+    The words of the food of max(1, BLOCK // count) turns are drawn together, when they are first
+    needed: `integers(0, 2**32, (turns, count, words), uint32)`. So are the numbers of layouts of the
+    games that begin, in the order of the games: `integers(0, LAYOUTS, max(BLOCK, count))`; what is
+    left of a block that is too short is dropped.
     """
 
     def __init__(self, count: int, words: int, settings: dict[str, Any]) -> None:
@@ -116,8 +123,11 @@ class Core:
         self.words = number("words", words, 0, MOST_WORDS)
         self.moves = np.zeros((self.count, self.seats), "u1")
         self._words = np.zeros((self.count, self.words), np.uint32)
+        self._word_turns = max(1, BLOCK // self.count)
         self._which = np.zeros(self.count, bool)
         self.rng: np.random.Generator | None = None
+        self._word_blocks: Iterator[np.ndarray] = iter(())
+        self._numbers, self._next = np.zeros(0, "i8"), 0
         self._layouts: tuple[np.ndarray, np.ndarray] | None = None
         self._lay_out_heads()
 
@@ -128,14 +138,16 @@ class Core:
         buffer = np.zeros((self.count, head.itemsize), "u1")
         used = head.itemsize - head["seats"].base.itemsize * (SEATS - self.seats)
         self._from, self._heads = games[:, :used], buffer[:, :used]
-        heads = buffer.view(head)[:, 0]
+        self._is_few = self.count <= FEW
+        heads = self.games.states["head"] if self._is_few else buffer.view(head)[:, 0]
         self._over, self._turn, seats = heads["over"], heads["turn"], heads["seats"]
         self._seats = {name: seats[name][:, : self.seats] for name in seats.dtype.names}
 
     def seed(self, rng: np.random.Generator) -> None:
         """Takes a generator, and draws the first boards."""
         games = self.games
-        self.rng = rng
+        self.rng, self._word_blocks = rng, iter(())
+        self._numbers, self._next = np.zeros(0, "i8"), 0
         self._layouts = layouts(rng, games.width, games.height, games.seats, games.mode)
         starts, food = self._layouts
         self._starts = np.zeros((self.count, *starts.shape[1:]), "u1")
@@ -149,8 +161,22 @@ class Core:
         assert self.rng is not None and self._layouts is not None
         rows = np.flatnonzero(which)
         starts, food = self._layouts
-        drawn = self.rng.integers(0, len(starts), len(rows))
+        if self._next + len(rows) > len(self._numbers):
+            self._numbers = self.rng.integers(0, len(starts), max(BLOCK, self.count))
+            self._next = 0
+        drawn = self._numbers[self._next : self._next + len(rows)]
+        self._next += len(rows)
         self._starts[rows], self._food[rows] = starts[drawn], food[drawn]
+
+    def _draw_words(self) -> None:
+        """Takes the words of the next turn."""
+        words = next(self._word_blocks, None)
+        if words is None:
+            assert self.rng is not None
+            shape = (self._word_turns, *self._words.shape)
+            self._word_blocks = iter(self.rng.integers(0, 1 << 32, shape, np.uint32))
+            words = next(self._word_blocks)
+        self._words[:] = words
 
     def begin(self) -> None:
         """Begins all games anew."""
@@ -165,7 +191,9 @@ class Core:
             raise TypeError(f"actions are of the type {given.dtype}, and may be whole numbers")
         if given.shape != shape:
             raise ValueError(f"actions have the shape {given.shape}, and may have {shape}")
-        if np.count_nonzero(given & ~3):
+        if given.dtype == np.uint64:
+            given = given.astype("i8")  # numbers beyond that become negative, and are refused
+        if np.count_nonzero(np.bitwise_and(given, BEYOND)):
             raise ValueError(f"actions are {given.min()} to {given.max()}, and may be 0 to 3")
         np.copyto(self.moves, given.reshape(self.moves.shape), casting="unsafe")
 
@@ -174,8 +202,7 @@ class Core:
 
         Writes the planes of all as `show` does.
         """
-        assert self.rng is not None
-        self._words[:] = self.rng.integers(0, 1 << 32, self._words.shape, np.uint32)
+        self._draw_words()
         done = np.logical_or(self.over, self.cut)
         if np.count_nonzero(done):
             self._draw_starts(done)
@@ -186,10 +213,11 @@ class Core:
 
     def look(self) -> None:
         """Reads the state of all games."""
-        np.copyto(self._heads, self._from)
-        self.alive = self._seats["cause"] == 0
-        self.over = self._over != 0
-        self.cut = self._turn >= LAST_TURN
+        if not self._is_few:
+            np.copyto(self._heads, self._from)
+        self.alive = np.logical_not(self._seats["cause"])
+        self.over = self._over.astype(bool)
+        self.cut = np.greater_equal(self._turn, LAST)
         if np.count_nonzero(self.cut):
             self.cut &= ~self.over
 
@@ -215,7 +243,7 @@ class Core:
         0 for a snake that is out."""
         seats = self.seats
         health = self._seats["health"] * self.alive
-        length = np.minimum(self._seats["parts"], 255).astype("u1") * self.alive
+        length = np.minimum(self._seats["parts"], MOST_LENGTH).astype("u1") * self.alive
         into[:, 1 + seats : 1 + 2 * seats] = health[:, :, None, None]
         into[:, 1 + 2 * seats :] = length[:, :, None, None]
 
