@@ -46,11 +46,29 @@ pub(crate) fn record_board(
     ensures value { IfOk result (λ answer. answer ≡ answer_with (shown_within_quota (view_within quota charge) word board)) }
     ensures fits { IfOk result (λ answer. IsFitEffect quota charge answer.effect) }
 {
-    let charge = charge + board_charge(&board);
+    record_shown(alloc, quota, charge, word, &board)
+}
+
+/// As `record_board`, of a board that the caller drops.
+fn record_shown(
+    alloc: Global,
+    quota: u32,
+    charge: u32,
+    word: Word,
+    board: &Board,
+) -> Result<Answer, AllocError>
+    requires within { charge ≤ quota }
+    requires small { quota ≤ MOST_QUOTA }
+    requires legal { IsLegal board.now }
+    requires adds { effect_of_shown word board.now ≡ Effect.Add (record_of board.now) }
+    ensures value { IfOk result (λ answer. answer ≡ answer_with (shown_within_quota (view_within quota charge) word board.now)) }
+    ensures fits { IfOk result (λ answer. IsFitEffect quota charge answer.effect) }
+{
+    let charge = charge + board_charge(board);
     if charge > quota {
         return Ok(refuse(Refusal::Quota));
     }
-    let record = Record::of(alloc, &board)?;
+    let record = Record::of(alloc, board)?;
     Ok(Answer {
         reply: Reply::Shown(word, KeptBoard::of_record(record.share()?), charge),
         effect: Effect::Add(record),
