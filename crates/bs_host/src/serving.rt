@@ -61,6 +61,24 @@ fn open_core(
     Ok(Core::open(alloc, plan.copy(alloc)?, blocks, threads)?)
 }
 
+/// The core of a file with its lines, or the fault of opening, else that of parsing.
+fn opened_with(
+    file: CommandFile<'_>,
+    core: Result<Core<BLOCK_BYTES>, Fault>,
+    lines: Result<Vec<Share>, AllocError>,
+) -> Result<(Core<BLOCK_BYTES>, Vec<Share>), Fault>
+    requires core { IfOk core (IsCoreOf file.blocks file.plan.now) }
+    requires fault { IfErr core (IsRefusal (refusal_of_plan file.blocks (Ok file.plan.now))) }
+    requires lines { IfOk lines
+        (λ shares. all_lines shares.items ≡ parsed_lines file.plan.now.version (pieces_after (option_copied file.rest))) }
+    ensures core { IfOk result (λ opened. IsCoreOf file.entry.blocks file.entry.plan.now opened.0) }
+    ensures lines { IfOk result
+        (λ opened. all_lines opened.1.items ≡ parsed_lines file.entry.plan.now.version (pieces_after (option_copied file.entry.rest))) }
+    ensures fault { IfErr result (IsRefusal (refusal_of_plan file.entry.blocks (Ok file.entry.plan.now))) }
+{
+    Ok((core?, lines?))
+}
+
 /// Opens a core for the plan of a file. If there may be several threads, its lines are parsed
 /// meanwhile; the fault of opening comes before that of parsing.
 fn open_file<R: Threads + Sync>(
@@ -78,11 +96,13 @@ fn open_file<R: Threads + Sync>(
     let CommandFile { blocks, plan, rest } = file;
     let version = plan.version;
     let Some(text) = rest else {
-        return Ok((open_core(alloc, plan, blocks, threads)?, Vec::new(alloc)));
+        let core = open_core(alloc, plan, blocks, threads);
+        return opened_with(file, core, Ok(Vec::new(alloc)));
     };
     if threads <= 1 {
-        let core = open_core(alloc, plan, blocks, threads)?;
-        return Ok((core, parse_text(rt, alloc, version, text, threads)?));
+        let core = open_core(alloc, plan, blocks, threads);
+        let lines = parse_text(rt, alloc, version, text, threads);
+        return opened_with(file, core, lines);
     }
     let (core, lines) = join(
         rt,
@@ -96,7 +116,7 @@ fn open_file<R: Threads + Sync>(
             ensures { IfOk result (λ shares. all_lines shares.items ≡ parsed_lines version (pieces_of text.entry.now)) }
         { parse_text(rt, alloc, version, text, threads) },
     );
-    Ok((core?, lines?))
+    opened_with(file, core, lines)
 }
 
 /// Opens a core for the plan of a file, and routes its lines.
