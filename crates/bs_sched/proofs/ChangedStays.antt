@@ -32,7 +32,7 @@ use Rattle.bs_sched.specs.inner.Reserved.{AreReserved, IsReserved}
 use Rattle.bs_sched.specs.Storage.{frame_tag, record_tag}
 use Rattle.bs_sched.proofs.ListedGames.{lane_at, lanes_set, many_lanes, packing_at, packings_set, same_numbers}
 use Rattle.bs_sched.proofs.Registered.{listed_less, listed_more}
-use Rattle.bs_sched.proofs.PlanBlocks.{none_from, none_next}
+use Rattle.bs_sched.proofs.PlanBlocks.{both_removed, none_from, none_next}
 use Rattle.bs_sched.proofs.Reserved.{more_of, rest_of, reserved_comes, reserved_left, with_room}
 use Rattle.bs_sched.proofs.Tallies.{same_tallies}
 
@@ -403,3 +403,17 @@ can_reserve cap c row sound fits =
     let aside = sound.reserved in
     let all = aside.within in
     (subst (λ (n : ℕ). All (λ r. r.tag < record_tag n) c.pool.reservations) (many_lanes c.list.items) aside.below, omega (arith, all, fits))
+
+-- what was reserved for a stay that is not admitted after all
+
+pub can_take_back : (cap : ℕ) {at : ℕ} (c : Inside at) (row : GameRow) (mid : Ledger) → IsSound cap c → IsSoundPool c.pool
+    → blocks_of cap row ≤ size c.pool - open_blocks cap (lanes_in c.list.items) → mid ≡ with_row cap (length c.list.items) row c.pool
+    → CanRelease (length c.list.items) mid × (pool_left (length c.list.items) mid ≡ c.pool)
+can_take_back cap c row mid sound pool fits is =
+    let games = c.list.items in
+    let game = length games in
+    let below = (can_reserve cap c row sound fits).0 in
+    rw is (
+      can_release cap game (opened_game game row) (with_row cap game row c.pool) refl refl refl refl (new_blocks cap games row c.pool pool sound.reserved fits),
+      ap (ledger_of c.pool.owners) (both_removed (2 * game) _ _ c.pool.reservations (none_from game c.pool below) (none_next game c.pool below)),
+    )

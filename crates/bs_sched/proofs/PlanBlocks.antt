@@ -1,8 +1,8 @@
 -- The reservations of the games of a plan, from which nothing is drawn yet.
 use Rattle.std.proofs.Common.{◌≡◌, ◌≢◌, ℕ, zero, suc, ◌+◌, ◌*◌, ◌<◌, ◌≤◌, true, false, List, [], ◌∷◌, ◌++◌, None, Some, length, slice_index_or, refl, ap, ◌∙◌, arith, inl, inr, All}
 use Rattle.std.proofs.lemmas.Bool.{cases_Bool, eqb-true, eq-eqb, ne_eqb}
-use Rattle.std.proofs.lemmas.List.Elements.{All-tail}
-use Rattle.std.specs.Prelude.{IsSome, nat_eq, find, count_by}
+use Rattle.std.proofs.lemmas.List.Elements.{All-tail, filter-append}
+use Rattle.std.specs.Prelude.{IsSome, nat_eq, not, find, count_by}
 use Rattle.bs_board.specs.plans.Plan.{GameRow}
 use Rattle.bs_pool.specs.declared.reservation.Reservation.{Reservation}
 use Rattle.bs_pool.proofs.Soundness.{held_opened}
@@ -117,6 +117,14 @@ removed_pushed tag n (r ∷ rs) none =
           let rest : find (is_of tag) rs ≡ None = rw differ at none in
           rw (differ, removed_pushed tag n rs rest) refl
     ]
+
+-- and two that were just made are
+pub both_removed : (tag m n : ℕ) (rs : List Reservation) → find (is_of tag) rs ≡ None → find (is_of (tag + 1)) rs ≡ None
+    → without (tag + 1) (without tag ((rs ++ record { tag = tag; blocks = m } ∷ []) ++ record { tag = tag + 1; blocks = n } ∷ [])) ≡ rs
+both_removed tag m n rs none none_beside =
+    let other : nat_eq (tag + 1) tag ≡ false = ne_eqb _ _ (λ same. omega (arith, same)) in
+    let apart = filter-append (λ (r : Reservation). not (is_of tag r)) (rs ++ record { tag = tag; blocks = m } ∷ []) (record { tag = tag + 1; blocks = n } ∷ []) in
+    rw (apart, removed_pushed tag m rs none, other) (removed_pushed (tag + 1) n rs none_beside)
 
 pub record IsTakenBack (tag : ℕ) (old new : Ledger) : Type 0 where
   pub some : IsSome (reservation_of tag new)

@@ -1,9 +1,10 @@
 //! All stays of a core, and the pool of their blocks. Clauses see them as lanes and as the places
 //! of their records.
-ghost use Rattle.std.specs.Prelude.{◌≡◌, ◌+◌, ◌≤◌, ◌<◌, ◌∷◌, [], true, All, length, OnOk, OnErr, IfOk, IfErr, MatchOption, ◌↔◌, IsTrue, ℕ, List, None, slice_index_or};
-ghost use Rattle.std.specs.List.{list_all};
+ghost use Rattle.std.specs.Prelude.{◌≡◌, ◌+◌, ◌≤◌, ◌<◌, ◌∷◌, ◌++◌, [], true, false, All, length, OnOk, OnErr, IfOk, IfErr, MatchOption, ◌↔◌, IsTrue, ℕ, List, None, slice_index_or};
+ghost use Rattle.std.specs.List.{list_all, list_any};
 ghost use Rattle.bs_board.specs.plans.Plan.{IsFitPlan, is_fit_row};
 ghost use Rattle.bs_pool.specs.Ledger.{free, opened as new_pool, size};
+ghost use Rattle.bs_pool.specs.Reservations.{all_reserved};
 ghost use Rattle.bs_sched.specs.Games.{after, opened, KeepsTallies, games_taken, setting_of, tally_of};
 ghost use Rattle.bs_sched.specs.inner.Games.{games_completed};
 ghost use Rattle.bs_sched.specs.inner.GamesLayout.{lanes_in, numbers_in, opened_games};
@@ -14,16 +15,20 @@ ghost use Rattle.bs_sched.specs.inner.Lane.{HasNoneReady};
 ghost use Rattle.bs_sched.specs.Machine.{lane_of, may_admit};
 ghost use Rattle.bs_sched.specs.declared.event.Event.TheVariants as event;
 ghost use Rattle.bs_block.specs.Bytes.{IsCapacity};
-ghost use Rattle.bs_registry.specs.Blocks.{blocks_of_all};
+ghost use Rattle.bs_registry.specs.Blocks.{blocks_of, blocks_of_all};
+ghost use Rattle.bs_registry.specs.OpenStays.{bears};
+ghost use Rattle.bs_registry.specs.Registry.{rows_in, with_stay};
 ghost use Rattle.bs_registry.specs.Stays.{first_refusal};
 ghost use Rattle.bs_sched.specs.Registry.{capacity_of, registry_of};
-ghost use Rattle.bs_sched.specs.PlanBlocks.{reservations_of};
+ghost use Rattle.bs_sched.specs.PlanBlocks.{reservations_of, with_row};
 ghost use Rattle.bs_sched.specs.declared.opening.Open.TheVariants as cause;
 ghost use Rattle.bs_fiber.specs.Tickets.{IsFresh, bytes_of, frames_in, names_of, worked_bytes};
 ghost use Rattle.bs_sched.specs.Inputs.{input_of, names_for};
 ghost use Rattle.bs_sched.specs.Keyed.{IsKeyOf};
 ghost use Rattle.bs_sched.specs.inner.Taking.{AreNoneOpenReady, AreNoneReadyBetween, IsReadyJob};
 ghost use Rattle.bs_fiber.specs.Work.{out_seen};
+ghost use Rattle.bs_sched.specs.inner.Game.{opened_game};
+ghost use Rattle.bs_sched.specs.Storage.{record_tag};
 ghost use Rattle.bs_sched.specs.Putting.{IsOwn, IsOwnJob};
 ghost use Rattle.bs_sched.specs.Parts.{AreOwnParts, IsOwnPart};
 
@@ -147,6 +152,52 @@ fn place_from(stays: &[Listed<()>], first: usize) -> usize
         Some(place) => place,
         None => stays.len(),
     }
+}
+
+/// Lists an open row, and reserves its blocks. After an error nothing is changed.
+fn list_row<const CAP: usize>(
+    registry: &mut Registry<()>,
+    pool: &mut Pool<CAP>,
+    alloc: Global,
+    row_number: usize,
+    row: &Row,
+) -> Result<(), AllocError>
+    requires wide { LEAST_CAPACITY ≤ CAP }
+    requires number { row_number < MOST_STAYS }
+    requires made { registry.old.made < MOST_STAYS }
+    requires new { list_any (bears row.now.game) (rows_in registry.old) ≡ false }
+    requires fresh { All (λ r. r.tag < record_tag row_number) pool.old.reservations }
+    requires room { all_reserved pool.old.reservations + blocks_of CAP row.now ≤ size pool.old }
+    ensures listed { OnOk result (registry.new ≡ with_stay row.now tt registry.old) }
+    ensures reserved { OnOk result (pool.new ≡ with_row CAP row_number row.now pool.old) }
+    ensures unlisted { OnErr result (registry.new ≡ registry.old) }
+    ensures unreserved { OnErr result (pool.new ≡ pool.old) }
+{
+    registry.push(row.copy(alloc)?, ())?;
+    match reserve_row(pool, row_number, row) {
+        Ok(()) => Ok(()),
+        Err(error) => {
+            registry.undo_push();
+            Err(error)
+        }
+    }
+}
+
+/// Adds a new game for the next row. After an error the list is unchanged.
+fn push_game<const CAP: usize>(
+    list: &mut Vec<Game<CAP>>,
+    alloc: Global,
+    row: Row,
+) -> Result<(), AllocError>
+    requires wide { LEAST_CAPACITY ≤ CAP }
+    requires few { length list.old.items < MOST_STAYS }
+    ensures ok { OnOk result (list.new.items ≡ list.old.items ++ opened_game (length list.old.items) row ∷ []) }
+    ensures err { OnErr result (list.new.items ≡ list.old.items) }
+{
+    let row_number = list.len();
+    list.reserve(1)?;
+    list.push_reserved(Game::new(alloc, row_number, row)?);
+    Ok(())
 }
 
 /// Removes and returns the only game of the list.
@@ -369,16 +420,13 @@ impl<const CAP: usize> Games<CAP> {
         ensures err { OnErr result (self.new ≡ self.old) }
     {
         let row_number = self.list.len();
-        let listed = row.copy(alloc)?;
-        let game = Game::new(alloc, row_number, row)?;
-        self.list.reserve(1)?;
         let _blocks = self.pool.size();
-        self.registry.push(listed, ())?;
-        if let Err(error) = reserve_row(&mut self.pool, row_number, game.row()) {
+        list_row(&mut self.registry, &mut self.pool, alloc, row_number, &row)?;
+        if let Err(error) = push_game(&mut self.list, alloc, row) {
+            release_row(&mut self.pool, row_number);
             self.registry.undo_push();
             return Err(error);
         }
-        self.list.push_reserved(game);
         Ok(row_number)
     }
 
