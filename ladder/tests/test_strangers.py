@@ -126,3 +126,17 @@ def test_hook_gets_each_result_once_it_is_stored(
     assert [it["number"] for it in results] == [1, 2, 3, 3, 4]
     assert [it["game"] for it in results] == [f"r000{at}-t001" for at in (1, 2, 3, 3, 4)]
     assert {seat["bot"] for seat in results[0]["seats"]} == {"fleer", "seeker"}
+
+
+def test_hook_that_reads_nothing_or_is_not_there_stops_no_game(
+    program: Path, small_bots: Served, tmp_path: Path
+) -> None:
+    bots = [(name, small_bots.url(name)) for name in ("fleer", "seeker")]
+    for hook, said in (("/bin/true", ""), ("/nonexistent", "No such file or directory")):
+        folder = tmp_path / hook.strip("/")
+        members = {"folder": str(folder), "seed": 1, "turns": 5, "hook": [hook]}
+        config = write_config(tmp_path / "x.toml", bots, rounds=3, **members)
+        ran = run_ladder("play", config, "--program", program)
+        lines = complaints(ran.stderr).splitlines()
+        assert ran.returncode == 0 and len(lines) == (said != "")
+        assert said in "".join(lines)

@@ -11,6 +11,7 @@ import json
 from collections.abc import Callable, Sequence
 from contextlib import closing, suppress
 from pathlib import Path
+from tempfile import TemporaryFile
 
 from arena_ladder.history import games_of
 from arena_ladder.outcome import Outcome
@@ -85,20 +86,21 @@ class Hook(Watch):
             await self.stored.wait()
 
     async def call(self, line: bytes) -> None:
-        try:
-            process = await asyncio.create_subprocess_exec(
-                *self.command, stdin=asyncio.subprocess.PIPE, stdout=asyncio.subprocess.DEVNULL
-            )
-        except OSError as fault:
-            self.complain(str(fault))
-            return
+        with TemporaryFile() as given:
+            given.write(line)
+            given.seek(0)
+            try:
+                process = await asyncio.create_subprocess_exec(
+                    *self.command, stdin=given, stdout=asyncio.subprocess.DEVNULL
+                )
+            except OSError as fault:
+                self.complain(str(fault))
+                return
         try:
             async with asyncio.timeout(COMMAND_SECONDS):
-                await process.communicate(line)
+                await process.wait()
         except TimeoutError:
             self.complain(f"took more than {COMMAND_SECONDS:.0f} s")
-        except ConnectionError:
-            pass  # it does not read its input
         finally:
             with suppress(ProcessLookupError):
                 process.kill()
