@@ -19,6 +19,7 @@ from arena_ladder.config import ENDLESS
 from arena_ladder.endless import name_of, number_of
 from arena_ladder.game_files import command_file
 from arena_ladder.pairing import GAME_NAME
+from arena_ladder.page_calls import season_rows
 from arena_ladder.packs import commands_of, pack_games
 from arena_ladder.roster import change_roster
 from arena_ladder.store import open_store
@@ -132,6 +133,10 @@ def test_season_begins_while_the_ladder_plays(
     first, spring = rows_of(folder, "--season", "1"), rows_of(folder, "--season", "spring")
     counts = [sum(row["games"] for row in rows.values()) for rows in (first, spring)]
     assert sum(counts) == 60 and 20 <= counts[0] < 60
+    with closing(open_store(folder)) as store:
+        assert [(it["name"], it["games"]) for it in season_rows(store)] == [
+            *(("spring", counts[1] // 2), ("1", counts[0] // 2))
+        ]
     assert all(row["games"] == 0 and row["elo"] == 1500 for row in rows_of(folder).values())
     assert_agrees(folder, 30, program)
     ran = run_ladder("play", config, "--rounds", "34", "--program", program)

@@ -5,23 +5,27 @@ const COLUMNS = [
   ['Games', 'games'], ['Won', 'wins'], ['Lost', 'losses'], ['Elo', 'elo'], ['Missed', 'missed'],
 ];
 
+/** The class of a column; that of the missed moves is not on phones. */
+function classOf(key) {
+  return key === 'missed' ? 'number large' : 'number';
+}
+
 function seasonRow(row) {
   const elo = `${row.elo} ± ${row.error}`;
-  const cells = COLUMNS.map(([, key]) => (key === 'elo' ? elo : String(row[key])));
-  return made('tr', {}, made('th', { scope: 'row' }, row.bot),
-    ...cells.map((text) => made('td', { className: 'number' }, text)));
+  const cells = COLUMNS.map(([, key]) => made('td', { className: classOf(key) },
+    key === 'elo' ? elo : String(row[key])));
+  return made('tr', {}, made('th', { scope: 'row' }, row.bot), ...cells);
 }
 
 /** The table of a season, under its name. Bots without a game in it are left out. */
 function seasonPart(season) {
-  const titles = ['Bot', ...COLUMNS.map(([title]) => title)];
-  const head = titles.map((title, at) => made('th',
-    { scope: 'col', className: at === 0 ? '' : 'number' }, title));
+  const head = [made('th', { scope: 'col' }, 'Bot'), ...COLUMNS.map(([title, key]) => made('th',
+    { scope: 'col', className: classOf(key) }, title))];
   const rows = season.rows.filter((row) => row.games > 0).map(seasonRow);
   const table = made('table', {}, made('thead', {}, made('tr', {}, ...head)),
     made('tbody', {}, ...rows));
   const words = `${season.games.toLocaleString('en')} games, until ${season.ended_at} (UTC)`;
-  return made('section', {}, made('h2', {}, season.name),
+  return made('section', {}, made('h2', {}, `Season ${season.name}`),
     made('p', { className: 'faint' }, words), made('div', { className: 'wide' }, table));
 }
 
