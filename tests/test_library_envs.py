@@ -97,6 +97,19 @@ class TestVectorApi:
             for given, wanted in zip(one, other):
                 assert same(given, wanted)
 
+    def test_memory_is_used_again_only_once_it_is_dropped(self, make):
+        env = make(4, seed=1, seats=2)
+        actions = np.zeros(env.action_space.shape, int)
+        seen = env.reset()[0]
+        part, before = seen[1:2, 1], seen[1:2, 1].copy()
+        del seen
+        places = set()
+        for _ in range(12):
+            seen = env.step(actions)[0]
+            assert not np.shares_memory(part, seen) and np.array_equal(part, before)
+            places.add(seen.__array_interface__["data"][0])
+        assert len(places) <= 4
+
     def test_copy_false_writes_the_same_memory(self, make):
         env = make(4, seed=1, seats=2, copy=False)
         first = env.reset()[0]

@@ -4,6 +4,7 @@ from __future__ import annotations
 
 from collections.abc import Iterator
 from ctypes import byref
+from sys import getrefcount
 from typing import Any
 
 import numpy as np
@@ -25,6 +26,30 @@ INFOS = ("alive", "cause", "killer", "turn")
 def lent(array: np.ndarray) -> Lent:
     """An array of one's own, whose memory stays where it is."""
     return Lent(array, array.__array_interface__["data"][0], array.size)
+
+
+class Rooms:
+    """Arrays of bytes for what is returned. One that nobody else holds any more is given again, so
+    that a loop that keeps nothing takes no new memory, which costs more than a turn."""
+
+    MOST = 3
+
+    def __init__(self, shape: tuple[int, ...]) -> None:
+        self.shape, self._arrays = shape, [np.zeros(shape, "u1")]
+        self._free = self._holders(0)
+
+    def _holders(self, at: int) -> int:
+        return getrefcount(self._arrays[at])
+
+    def take(self) -> np.ndarray:
+        """An array that no caller has, with any contents."""
+        for at in range(len(self._arrays)):
+            if self._holders(at) == self._free:
+                return self._arrays[at]
+        made = np.empty(self.shape, "u1")
+        if len(self._arrays) < self.MOST:
+            self._arrays.append(made)
+        return made
 
 
 class OnePass:
@@ -125,6 +150,7 @@ class Core:
         self._words = np.zeros((self.count, self.words), np.uint32)
         self._word_turns = max(1, BLOCK // self.count)
         self._which = np.zeros(self.count, bool)
+        self._health_and_length = np.zeros((self.count, 2 * self.seats), "u1")
         self.rng: np.random.Generator | None = None
         self._word_blocks: Iterator[np.ndarray] = iter(())
         self._numbers, self._next = np.zeros(0, "i8"), 0
@@ -241,11 +267,11 @@ class Core:
     def show_seats(self, into: np.ndarray) -> None:
         """Writes planes of health and of length, at most 255, behind those of the snakes; both are
         0 for a snake that is out."""
-        seats = self.seats
-        health = self._seats["health"] * self.alive
-        length = np.minimum(self._seats["parts"], MOST_LENGTH).astype("u1") * self.alive
-        into[:, 1 + seats : 1 + 2 * seats] = health[:, :, None, None]
-        into[:, 1 + 2 * seats :] = length[:, :, None, None]
+        seats, both = self.seats, self._health_and_length
+        np.multiply(self._seats["health"], self.alive, out=both[:, :seats])
+        length = np.minimum(self._seats["parts"], MOST_LENGTH)
+        np.multiply(length, self.alive, out=both[:, seats:], casting="unsafe")
+        into[:, 1 + seats :] = both[:, :, None, None]
 
     def infos(self) -> dict[str, np.ndarray]:
         """Who lives, and why who died, by game and seat; the turn of each game."""

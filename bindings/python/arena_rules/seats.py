@@ -7,7 +7,7 @@ from typing import Any
 
 import numpy as np
 
-from arena_rules.core import masks
+from arena_rules.core import Rooms, masks
 from arena_rules.spaces import Discrete, batch_space, planes_space
 from arena_rules.vector import Environments
 
@@ -31,11 +31,12 @@ class SeatView:
         self.planes = np.zeros((core.count, 1 + core.seats, games.height, games.width), "u1")
         self._picks = [np.array([0, *(1 + order)]) for order in self.order]
         self.shape = (core.count, core.seats, 1 + 3 * core.seats, games.height, games.width)
+        self.rooms = Rooms(self.shape)
 
     def observed(self, into: np.ndarray | None = None) -> np.ndarray:
         """The observations of all seats of all games, in the shape `shape`, from `planes`."""
         core, seats = self.core, self.core.seats
-        out = np.empty(self.shape, "u1") if into is None else into
+        out = self.rooms.take() if into is None else into
         health = core.seat_view("health") * core.alive
         length = np.minimum(core.seat_view("parts"), 255).astype("u1") * core.alive
         for seat, order in enumerate(self.order):
@@ -79,7 +80,7 @@ class SeatEnv(Environments):
         self.observation_space = batch_space(self.single_observation_space, self.num_envs)
         self.action_space = batch_space(self.single_action_space, self.num_envs)
         self._view = SeatView(core)
-        self._kept = None if copy else np.zeros(self._view.shape, "u1")
+        self._kept = None if copy else self._view.rooms.take()
         self._playing = np.zeros((core.count, core.seats), bool)
         self._masks = masks(self.num_envs, "waiting")
 

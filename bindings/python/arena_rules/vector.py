@@ -7,7 +7,7 @@ from typing import Any
 import numpy as np
 
 from arena_rules import render as drawing
-from arena_rules.core import LAST_TURN, Core, masks, refuse_options
+from arena_rules.core import LAST_TURN, Core, Rooms, masks, refuse_options
 from arena_rules.spaces import AutoresetMode, MultiDiscrete, VectorBase, batch_space, planes_space
 
 __all__ = ["LAST_TURN", "VectorEnv"]
@@ -100,14 +100,15 @@ class VectorEnv(Environments):
         self.observation_space = batch_space(self.single_observation_space, self.num_envs)
         self.action_space = batch_space(self.single_action_space, self.num_envs)
         self._shape = (self.num_envs, *self.single_observation_space.shape)
-        self._kept = None if copy else np.zeros(self._shape, "u1")
+        self._rooms = Rooms(self._shape)
+        self._kept = None if copy else self._rooms.take()
         self._masks = masks(self.num_envs)
 
     def _room(self) -> np.ndarray:
         """Where the observations of a call are written."""
         if self._kept is not None:
             return self._kept
-        return np.empty(self._shape, "u1") if self._observe else np.zeros(self._shape, "u1")
+        return self._rooms.take() if self._observe else np.zeros(self._shape, "u1")
 
     def _observed(self, planes: np.ndarray) -> np.ndarray:
         if self._observe and self._scalars:
