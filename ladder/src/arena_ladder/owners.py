@@ -2,8 +2,8 @@
 
 A server with one thread that keeps connections reads no other one until the one that it serves is
 closed. It is recognised if it never answered on a connection while an older one was open, and if
-it answers a request that waited unread as soon as its other connections are closed. From then on
-none of its connections is kept.
+it answered twice a request that waited unread once its other connections were closed. From
+then on none of its connections is kept. A busy machine may look so once.
 """
 
 from __future__ import annotations
@@ -12,6 +12,7 @@ import math
 from typing import Protocol
 
 UNREAD_SHARE = 0.5  # of the time of a request, after which idle connections of its bot are closed
+SURE = 2  # such answers
 SLOWER, SLOWER_SECONDS = 2.0, 0.05  # than its quickest answer, by which an answer was not read
 
 
@@ -37,7 +38,12 @@ class Owner:
         self.unread: set[object] = set()  # requests on fresh connections that wait for long
         self.quickest = math.inf  # seconds of an answer
         self.is_parallel = False  # it has answered on two open connections
-        self.is_serial = False
+        self.signs = 0  # answers that came once other connections were closed
+
+    @property
+    def is_serial(self) -> bool:
+        """Whether it serves one connection at a time."""
+        return self.signs >= SURE and not self.is_parallel
 
     def take(self) -> Kept | None:
         """An idle connection on which nothing has come, which is not idle any more."""
@@ -58,8 +64,8 @@ class Owner:
 
     def wait(self, request: object) -> None:
         """A request on a fresh connection has had no answer for long."""
-        self.unread.add(request)
-        if not self.is_parallel:
+        if self.used and not self.is_parallel:
+            self.unread.add(request)
             self.close()
 
     def answer(self, connection: Kept, request: object, seconds: float) -> None:
@@ -68,9 +74,7 @@ class Owner:
             self.is_parallel = self.is_parallel or any(it.is_quiet() for it in self.used)
             self.used.append(connection)
         was_slow = seconds > SLOWER * self.quickest + SLOWER_SECONDS
-        self.is_serial = not self.is_parallel and (
-            self.is_serial or (was_slow and request in self.unread)
-        )
+        self.signs += was_slow and request in self.unread
         self.quickest = min(self.quickest, seconds)
 
     def lose(self, connection: Kept) -> None:

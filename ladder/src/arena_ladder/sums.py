@@ -8,6 +8,7 @@ become one, of twice the games.
 from __future__ import annotations
 
 import sqlite3
+import sys
 from collections.abc import Mapping
 from itertools import combinations
 from typing import Any
@@ -16,6 +17,7 @@ from arena_ladder.outcome import Finish, Outcome, Tally
 
 MOST_BLOCKS = 48
 ALL = -1  # the block of all games
+MANY = 20_000  # games whose sums take seconds to make
 LAST_MISSES = 20  # of each bot, games with missed moves that are kept at hand
 TABLES = """
 CREATE {temp} TABLE IF NOT EXISTS total (
@@ -108,6 +110,9 @@ class Sums:
         shift = 0
         while max(0, count - 1) >> shift >= MOST_BLOCKS:
             shift += 1
+        if count >= MANY:
+            said = f"ladder: the sums of {count:,} games are made, once; this takes a while"
+            print(said, file=sys.stderr)
         self.base.execute("INSERT INTO summed VALUES (?, 0)", (shift,))
         for block in (str(ALL), f"(g.rowid - 1) >> {shift}"):
             rows = FROM_ROWS["pair"].format(block=block, first=0)
