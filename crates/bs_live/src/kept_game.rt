@@ -8,7 +8,7 @@ ghost use Rattle.bs_board.specs.records.Kept.{IsLegalRecord};
 ghost use Rattle.bs_board.specs.records.Record.{record_of};
 ghost use Rattle.bs_game.specs.Answer.{Fits, answer_to, asked_board, view_of_game};
 ghost use Rattle.bs_game.specs.Game.{board_of_turn, game_charge, last_board};
-ghost use Rattle.bs_game.specs.Law.{IsAnswerTo, IsFitEffect, effected};
+ghost use Rattle.bs_game.specs.Law.{IsFitEffect, effected};
 ghost use Rattle.bs_game.specs.View.{IsFitView};
 ghost use Rattle.bs_heap.specs.Charge.{blocks_for, charge_of};
 ghost use Rattle.bs_heap.specs.Heap.{empty_heap};
@@ -18,7 +18,7 @@ ghost use Rattle.bs_pool.specs.Ledger.{opened, reserved, size, with_reservation}
 ghost use Rattle.bs_live.specs.inner.Game.{game_after, no_game};
 
 use bs_board::{Board, Command, KeptBoard, Record, Reply, TurnNumber};
-use bs_game::{Answer, Effect, View, answer, place_of_turn};
+use bs_game::{Effect, View, answer, place_of_turn};
 use bs_heap::{MOST_RECORD_BYTES, TagHeap, blocks_for};
 use bs_pool::{Pool, Reserve};
 use std::alloc::{AllocError, Global};
@@ -213,24 +213,15 @@ impl<const CAP: usize> KeptGame<CAP> {
         })
     }
 
-    /// The answer to a command. The game's view is dropped here, before anything changes.
-    fn answer_from_view(&self, alloc: Global, command: &Command) -> Result<Answer, AllocError>
-        ensures { IfOk result (λ answer. IsAnswerTo self.now.quota self.now.game (answer_to self.now.quota self.now.game command.now) answer) }
-    {
-        let _quota = self.quota;
-        keeps_limits(command);
-        let view = self.view(alloc, command)?;
-        let answer = answer(alloc, &view, command)?;
-        Ok(answer)
-    }
-
     /// Answers a command and changes the records. After an error the game is unchanged.
     pub(crate) fn answer(&mut self, alloc: Global, command: &Command) -> Result<Reply, AllocError>
         ensures reply { IfOk result (λ reply. reply ≡ (answer_to self.old.quota self.old.game command.now).reply) }
         ensures game { OnOk result (self.new ≡ game_after command.now self.old) }
         ensures err { OnErr result (self.new ≡ self.old) }
     {
-        let answer = self.answer_from_view(alloc, command)?;
+        keeps_limits(command);
+        let view = self.view(alloc, command)?;
+        let answer = answer(alloc, &view, command)?;
         self.heap.grow_index()?;
         change_records(&mut self.heap, &mut self.pool, &answer.effect);
         Ok(answer.reply)

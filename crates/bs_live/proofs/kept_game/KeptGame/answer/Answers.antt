@@ -1,12 +1,12 @@
 use Rattle.std.proofs.Common.{◌≡◌, map, sym, ap, subst, ◌∙◌, arith}
 use Rattle.bs_board.specs.inner.Kept.{board_in}
-use Rattle.bs_game.specs.Answer.{answer_to}
-use Rattle.bs_game.specs.Law.{IsAnswerTo, effected}
+use Rattle.bs_game.specs.Answer.{answer_to, view_of_game}
+use Rattle.bs_game.specs.Law.{effected}
 use Rattle.bs_heap.specs.Heap.{Heap}
 use Rattle.bs_pool.specs.Ledger.{size}
 use Rattle.bs_live.specs.Game.{KeptBoards}
 use Rattle.bs_live.specs.inner.Game.{game_after}
-use Rattle.bs_live.proofs.Boards.{answered, change_fits, same_kept}
+use Rattle.bs_live.proofs.Boards.{answered, change_fits, same_kept, told}
 use Rattle.bs_live.proofs.kept_game.KeptGame.answer.Goals as goal
 
 pub change_records-requires : goal.change_records-requires
@@ -14,7 +14,8 @@ change_records-requires g c =
     let inside = c.self.inside in
     let boards = map board_in inside.heap.records in
     let kept = c.self.invariant in
-    let is = subst (λ (v : KeptBoards). IsAnswerTo v.quota v.game (answer_to v.quota v.game c.args.command.now) c.in_ok-answer.answer) (sym c.self.view_is) c.in_ok-answer.ensures in (
+    let seen = subst (λ (v : KeptBoards). c.in_ok-view.view ≡ view_of_game v.quota v.game c.args.command.now) (sym c.self.view_is) c.in_ok-view.ensures.value in
+    let is = told c.in_ok-view.view c.in_ok-answer.answer inside.quota boards c.args.command.now kept.recorded.right c.keeps_limits.ensures c.in_ok-view.ensures.fit seen c.in_ok-answer.ensures.value in (
       omega arith,
       (
         omega arith,
@@ -31,7 +32,8 @@ invariant_of-self-2 g c =
     let inside = c.self.inside in
     let boards = map board_in inside.heap.records in
     let kept = c.self.invariant in
-    let is = subst (λ (v : KeptBoards). IsAnswerTo v.quota v.game (answer_to v.quota v.game c.args.command.now) c.in_ok-answer.answer) (sym c.self.view_is) c.in_ok-answer.ensures in
+    let seen = subst (λ (v : KeptBoards). c.in_ok-view.view ≡ view_of_game v.quota v.game c.args.command.now) (sym c.self.view_is) c.in_ok-view.ensures.value in
+    let is = told c.in_ok-view.view c.in_ok-answer.answer inside.quota boards c.args.command.now kept.recorded.right c.keeps_limits.ensures c.in_ok-view.ensures.fit seen c.in_ok-answer.ensures.value in
     let changed = c.change_records.ensures in
     let grown = c.grow_index.ensures.heap in
     let records = changed.records ∙ ap (λ (h : Heap). effected c.in_ok-answer.answer.effect h.records) grown in
@@ -50,7 +52,8 @@ returns-clause-reply g c =
     let inside = c.self.inside in
     let boards = map board_in inside.heap.records in
     let kept = c.self.invariant in
-    let is = subst (λ (v : KeptBoards). IsAnswerTo v.quota v.game (answer_to v.quota v.game c.args.command.now) c.in_ok-answer.answer) (sym c.self.view_is) c.in_ok-answer.ensures in
+    let seen = subst (λ (v : KeptBoards). c.in_ok-view.view ≡ view_of_game v.quota v.game c.args.command.now) (sym c.self.view_is) c.in_ok-view.ensures.value in
+    let is = told c.in_ok-view.view c.in_ok-answer.answer inside.quota boards c.args.command.now kept.recorded.right c.keeps_limits.ensures c.in_ok-view.ensures.fit seen c.in_ok-answer.ensures.value in
     subst (λ (v : KeptBoards). c.in_ok-answer.answer.reply ≡ (answer_to v.quota v.game c.args.command.now).reply) c.self.view_is is.reply
 
 pub returns-clause-game : goal.returns-clause-game
@@ -58,7 +61,8 @@ returns-clause-game g c =
     let inside = c.self.inside in
     let boards = map board_in inside.heap.records in
     let kept = c.self.invariant in
-    let is = subst (λ (v : KeptBoards). IsAnswerTo v.quota v.game (answer_to v.quota v.game c.args.command.now) c.in_ok-answer.answer) (sym c.self.view_is) c.in_ok-answer.ensures in
+    let seen = subst (λ (v : KeptBoards). c.in_ok-view.view ≡ view_of_game v.quota v.game c.args.command.now) (sym c.self.view_is) c.in_ok-view.ensures.value in
+    let is = told c.in_ok-view.view c.in_ok-answer.answer inside.quota boards c.args.command.now kept.recorded.right c.keeps_limits.ensures c.in_ok-view.ensures.fit seen c.in_ok-answer.ensures.value in
     let changed = c.change_records.ensures in
     let records = changed.records ∙ ap (λ (h : Heap). effected c.in_ok-answer.answer.effect h.records) c.grow_index.ensures.heap in
     let next = answered inside.quota (answer_to inside.quota boards c.args.command.now) c.in_ok-answer.answer inside.heap.records c.change_records.new.heap.records kept.recorded is records in
