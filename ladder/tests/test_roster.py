@@ -187,7 +187,8 @@ def test_bots_come_and_go_in_a_ladder_that_is_killed(
         lambda: replace(folder, "lazy@2", small_bots.url("hungry")),
     ]
     for at, change in enumerate(changes, 1):
-        wait_for_games(process, folder, at * games // (len(changes) + 2))
+        enough = max(at * games // (len(changes) + 2), games_stored(folder) + 4)
+        wait_for_games(process, folder, enough)  # so that each new bot is drawn
         change()
         if at % 2 == 0:
             process.kill()
