@@ -37,6 +37,11 @@ function looksInAddress(search) {
   return new URLSearchParams(search).get('looks');
 }
 
+/** The file with the answers of the bots that the address names, or null. */
+function answersInAddress(search) {
+  return new URLSearchParams(search).get('answers');
+}
+
 /** Removes the file from the address of the page, and the turn as well if `withTurn` is true. */
 function forgetAddress(withTurn) {
   const address = new URL(location);

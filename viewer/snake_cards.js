@@ -8,6 +8,7 @@ class SnakeCard {
     this.seat = seat;
     this.fate = made('span', { className: 'fate' });
     this.numbers = made('span', { className: 'numbers' });
+    this.answer = made('p', { className: 'answer', hidden: true });
     const range = { min: 0, max: 100, low: 25, high: 50, optimum: 100 };
     this.meter = made('meter', { ...range, ariaLabel: `Health of ${snake.id}` });
     this.plot = drawn('svg', { class: 'plot', role: 'img', preserveAspectRatio: 'none' });
@@ -15,7 +16,7 @@ class SnakeCard {
     this.look = made('span', {}, swatchPicture(snake.id, seat));
     this.item = made('li', {},
       made('div', { className: 'who' }, this.look, made('strong', {}, snake.id), this.fate),
-      made('div', { className: 'how' }, this.numbers, this.meter), this.plot);
+      made('div', { className: 'how' }, this.numbers, this.meter), this.answer, this.plot);
     this.item.dataset.seat = seat;
   }
 
@@ -26,6 +27,10 @@ class SnakeCard {
     this.fate.textContent = fateOf(snake);
     this.numbers.textContent = `health ${snake.health}, length ${snake.body.length}`;
     this.meter.value = snake.health;
+    const isAsked = isLiving(snake) || snake.out === turn;
+    this.answer.textContent = isAsked ? wordsOfAnswer(snake.id, turn) : '';
+    this.answer.hidden = ANSWERS.length === 0;
+    this.answer.classList.toggle('missed', isAsked && hasMissed(snake.id, turn));
     const label = `Health and length of ${snake.id} from turn 0 to turn ${last}`;
     this.plot.setAttribute('aria-label', label);
     movePlotLine(this.plot, turn, last);

@@ -177,6 +177,7 @@ function listenToKeys(viewer) {
 function listenToFiles(viewer, page) {
   const open = (file) => {
     if (file) {
+      setAnswers([]);
       forgetAddress(viewer.transcript !== null);
       viewer.open(file.name, Promise.resolve(file));
     }
@@ -197,13 +198,27 @@ function heldFile(element) {
   return Promise.resolve(new Blob([element.textContent]));
 }
 
-/** Fetches a transcript, after the looks of its snakes if a file with them is named and there. */
-async function fetchWithLooks(name, looks) {
+/** Fetches a transcript, after the looks and answers of its snakes if such files are named. */
+async function fetchWithMore(name, looks, answers) {
   if (looks) {
-    const reading = fetchFile(looks).then((file) => file.text()).then(JSON.parse);
-    setLooks(await reading.catch(() => ({})));
+    setLooks((await fetchNamed(looks)) ?? {});
+  }
+  if (answers) {
+    setAnswers(await fetchNamed(answers));
   }
   return fetchFile(name);
+}
+
+/** Plays a game that a ladder's page has opened, unless the address names a turn. */
+async function playFromLadder(viewer, isAtTurn) {
+  const isCalm = matchMedia('(prefers-reduced-motion: reduce)').matches;
+  const { game } = viewer.panel.asked;
+  if (document.body.dataset.from === 'ladder' && game) {
+    document.title = `${game.name} – Ladder`;
+    if (!isAtTurn && !isCalm) {
+      await viewer.panel.togglePlaying();
+    }
+  }
 }
 
 function beginViewer() {
@@ -217,10 +232,14 @@ function beginViewer() {
   });
   window.addEventListener('hashchange', () => viewer.goToAddress());
   const name = fileInAddress(location.search);
+  showWayBack(page.back_link, location.search);
   if (page.transcript) {
+    setAnswers(JSON.parse(page.answers?.textContent ?? '[]'));
     viewer.open(page.transcript.title, heldFile(page.transcript));
   } else if (name) {
-    viewer.open(name, fetchWithLooks(name, looksInAddress(location.search)));
+    const { search, hash } = location;
+    const reading = fetchWithMore(name, looksInAddress(search), answersInAddress(search));
+    viewer.open(name, reading).then(() => playFromLadder(viewer, hash !== ''));
   }
 }
 

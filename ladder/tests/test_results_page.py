@@ -28,10 +28,14 @@ from arena_ladder.transcripts import NoTranscript, Transcripts
 
 BOTS = ("fleer", "hungry", "lazy")
 WIDE, NARROW = (1280, 900), (390, 844)
+TURN = (
+    "(/Turn ([0-9]+) of ([0-9]+)/.exec(document.getElementById('turn').textContent) ?? [])"
+    ".slice(1).map(Number)"
+)
 SHOWN = """
 const [games] = arguments;
 const seats = [...document.querySelectorAll('#standings tbody tr')]
-  .map((row) => Number(row.querySelector('td').textContent));
+  .map((row) => Number(row.cells[4].textContent));
 return document.querySelectorAll('#finished li').length === games
   && seats.reduce((sum, it) => sum + it, 0) === 2 * games;
 """
@@ -255,6 +259,12 @@ def test_finished_game_and_bot_are_looked_at(
     browser.complaints()
     browser.go(site.address)
     browser.wait("return document.querySelectorAll('#finished li').length === 20", seconds=60)
+    words = browser.run("return document.body.innerText")
+    assert "standard, map standard, 11 by 11, 2 snakes, 5000 ms for a move" in words
+    assert "Ask whoever runs this ladder" in words and "How to enter" in words
+    assert browser.run("return document.title") == "results"
+    assert browser.run("return document.querySelector('#standings tbody td').textContent") == "1"
+    assert not re.search(r"wall missed|missed 1 moves", words)
     browser.click("#more")
     browser.wait("return document.querySelectorAll('#finished li').length === 24", seconds=60)
     colour = "return document.querySelector('[data-bot=gone] .body').getAttribute('stroke')"
@@ -263,6 +273,9 @@ def test_finished_game_and_bot_are_looked_at(
     browser.click("#standings [data-bot=gone] a")
     browser.wait("return document.body.dataset.state === 'open'", seconds=60)
     text = browser.run("return document.body.innerText")
+    assert browser.run("return document.querySelectorAll('#elos span').length") >= 2
+    counts = "return [...document.querySelectorAll('#counts span')].map(it => it.textContent)"
+    assert browser.run(counts)[-1] == "game 24"
     assert re.search(r"place 4\b.*12 games: 0 won", text, re.DOTALL)
     assert re.search(r"refused \d+", text)
     assert (
@@ -272,17 +285,23 @@ def test_finished_game_and_bot_are_looked_at(
     assert fits(browser)
     browser.click("#finished li a")
     browser.wait("return document.body.dataset.state === 'open'", seconds=60)
-    (last,) = browser.wait(
-        "return /^Turn 0 of ([0-9]+)$/.exec(document.getElementById('turn').textContent)?.slice(1)",
-        seconds=60,
-    )
+    browser.wait(f"return {TURN}[0] > 1", seconds=60)  # it plays by itself
+    browser.click("#play")
+    last = browser.run(f"return {TURN}[1]")
+    browser.click("#first")
+    browser.wait(f"return {TURN}[0] === 0", seconds=60)
     browser.click("#forward")
-    turn = f"return document.getElementById('turn').textContent === 'Turn 1 of {last}'"
-    browser.wait(turn, seconds=60)
+    browser.wait(f"return {TURN}[0] === 1 && {TURN}[1] === {last}", seconds=60)
+    said = browser.run("return [...document.querySelectorAll('.answer')].map(it => it.textContent)")
+    assert "missed its move: refused" in said
+    assert any(re.fullmatch(r"answered (up|down|left|right) in \d+ ms", it) for it in said)
+    assert browser.run("return document.title").endswith(" – Ladder")
     strokes = (
         "return [...document.querySelectorAll('#board .body')].map(it => it.getAttribute('stroke'))"
     )
     assert shown in browser.run(strokes)
     assert fits(browser)
+    browser.click("#back_link")
+    browser.wait("return document.getElementById('name')?.textContent === ' gone'", seconds=60)
     assert browser.complaints() == []
     resize(browser, (1500, 1250))

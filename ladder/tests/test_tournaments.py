@@ -135,6 +135,17 @@ def test_drawn_match_goes_on_and_then_the_better_seed_does() -> None:
     assert [it.name for it in Tournament(two.config, results).fixtures] == names[:2]
 
 
+def test_better_seed_goes_on_whichever_half_it_comes_from() -> None:
+    def first_loses(name: str, bots: tuple[str, ...]) -> Result:
+        if name.startswith("r0002"):
+            return drawn(name, bots)
+        loser = "b1" if "b1" in bots else "b3"
+        return Result(name, tuple((bot, 5 if bot == loser else None) for bot in bots))
+
+    four = played(config("single_elimination", 4), first_loses)
+    assert four.matches[-1].bots == ("b4", "b2") and four.champion == "b2"
+
+
 def test_groups_are_even_and_two_of_each_go_on() -> None:
     assert groups_of(10, 4) == [[1, 6, 7], [2, 5, 8], [3, 4, 9, 10][:3] + [10]]
     sixteen = played(config("groups", 16), better_wins)

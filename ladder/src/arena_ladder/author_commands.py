@@ -14,6 +14,7 @@ from arena_ladder.bot_log import HEADING, BotLog, read_log
 from arena_ladder.config import MAPS, MODES
 from arena_ladder.export import frames, game_rows, request_body, transcript_of
 from arena_ladder.game_files import make_folders
+from arena_ladder.kept_answers import rows_of_answers
 from arena_ladder.lock import locked
 from arena_ladder.match import Boards, match_config, new_folder, result_lines
 from arena_ladder.packs import commands_of
@@ -60,7 +61,8 @@ def run_match(given: argparse.Namespace) -> int:
         shown(boards.boards)
     print("\n".join([*result_lines(boards.outcome), *boards.missed_lines()]))
     link = folder / "game.html"
-    link.write_text(viewer_page(f"match {folder.name}", text))
+    answers = json.dumps(rows_of_answers(folder, boards.outcome.name))
+    link.write_text(viewer_page(f"match {folder.name}", text, answers))
     print(f"{link.resolve().as_uri()} opens in a browser")
     return 0
 

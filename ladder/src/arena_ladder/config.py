@@ -34,6 +34,7 @@ ORDER = "circle"  # of the games of a round: a folder of another order is anothe
 MOST_ROUNDS = 100_000
 MOST_TURNS = 10_000
 MOST_OF_MATCH = 50  # games
+LONGEST_NAME, LONGEST_TEXT = 80, 2_000  # letters
 MOST_HAZARDS = 2_500
 LONGEST_URL = 2048  # bytes
 MOST_NETWORKS = 256
@@ -105,6 +106,8 @@ class Config:
     group: int = 0  # bots of a group, in a tournament with groups
     networks: tuple[str, ...] | None = None  # of addresses that are not public
     hook: tuple[str, ...] = ()  # the words of a command that is run with each result
+    name: str = ""  # of the ladder, on its page
+    enter: str = ""  # how a bot enters it, for its authors
 
     @property
     def is_tournament(self) -> bool:
@@ -199,6 +202,13 @@ class Members:
             raise self.fault(f"{name} is missing or no text")
         return value
 
+    def words(self, name: str, most: int) -> str:
+        """A text that may be missing, of a limited length."""
+        value = self.table.pop(name, "")
+        if not isinstance(value, str) or len(value) > most:
+            raise self.fault(f"{name} has to be a text of at most {most} letters")
+        return value
+
     def flag(self, name: str, default: bool) -> bool:
         value = self.table.pop(name, default)
         if type(value) is not bool:
@@ -256,6 +266,8 @@ def config_of(table: dict[str, Any], place: str) -> Config:
         group=members.number("group", 4, 3, 16) if pairing == "groups" else 0,
         networks=networks_of(members),
         hook=tuple(members.texts("hook") or ()),
+        name=members.words("name", LONGEST_NAME),
+        enter=members.words("enter", LONGEST_TEXT),
     )
     members.finish()
     if len(bots) < config.snakes and not is_endless:

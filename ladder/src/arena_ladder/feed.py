@@ -62,7 +62,7 @@ class Feed:
 
     def __init__(self, results: Callable[[], Results]) -> None:
         self.read_results = results
-        self.results: Results = {"standings": [], "seed": "", "bots": []}
+        self.results: Results = {"standings": [], "seed": "", "bots": [], "about": None}
         self.words = dict.fromkeys(("games", "left", "summary", "waits"), "")
         self.readers: set[Reader] = set()
         self.boards: dict[str, Board] = {}

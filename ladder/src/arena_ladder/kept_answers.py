@@ -86,6 +86,12 @@ def heard_in(folder: Path, game: str) -> list[dict[str, Heard]] | None:
     return turns
 
 
+def rows_of_answers(folder: Path, game: str) -> list[dict[str, list[Any]]]:
+    """The answers of a finished game for the viewer; none if they are not kept."""
+    turns = heard_in(folder, game) or []
+    return [{bot: it.row() for bot, it in turn.items()} for turn in turns]
+
+
 def heard_of(row: list[Any]) -> Heard:
     """The answer in a row; raises TypeError for another list."""
     move, cause, latency, shout, *look = row

@@ -92,7 +92,8 @@ class Match:
             self.is_done = True
             ahead = points[0] - points[1]
             if ahead or self.has_winner:
-                self.winner = bots[0] if ahead >= 0 else bots[1]
+                better = min(bots, key=draws.seeds.__getitem__)
+                self.winner = bots[0] if ahead > 0 else bots[1] if ahead < 0 else better
 
     def _is_over(self, results: Mapping[str, Result]) -> bool:
         """Whether no further pair is played now: one is ahead, or a game is not done."""
@@ -101,10 +102,12 @@ class Match:
 
 
 class Draws(NamedTuple):
-    """What the games of all matches share: the seed, and their number in a match."""
+    """What all matches share: the seed of what is drawn, the games of a match, and the place of
+    each bot at the start."""
 
     seed: int
     games: int
+    seeds: Mapping[str, int]
 
 
 def games_of(match: Match, bots: tuple[str, str], draws: Draws, count: int) -> Iterator[Fixture]:

@@ -18,10 +18,13 @@ import sys
 import time
 from collections.abc import AsyncIterator, Awaitable, Callable
 from contextlib import asynccontextmanager, closing, suppress
+from datetime import UTC, datetime
 from pathlib import Path
 
 from aiohttp import web
 
+from arena_ladder.about import about_of
+from arena_ladder.days import with_days
 from arena_ladder.feed import Feed, Results
 from arena_ladder.history import bots_of
 from arena_ladder.page_calls import KINDS, Calls, faults_as_answers, files_of_page, rows_of
@@ -179,8 +182,10 @@ async def send_events(request: web.Request, feed: Feed) -> web.StreamResponse:
 def results_of(folder: Path) -> Results:
     """Reads the results of a folder."""
     with closing(open_store(folder)) as store:
-        rows = rows_of(store)
-        return {"standings": rows, "seed": seed_line_of(store), "bots": bots_of(store)}
+        rows = with_days(folder, rows_of(store), datetime.now(UTC).date())
+        about = about_of(store, folder)
+        seed = seed_line_of(store)
+        return {"standings": rows, "seed": seed, "bots": bots_of(store), "about": about}
 
 
 async def say_alive(writer: asyncio.StreamWriter) -> None:

@@ -5,6 +5,9 @@
     /games/GAME.jsonl                    the command file of a game
     /games/GAME.transcript               its transcript, which the viewer shows
     /seasons.json                        the seasons that have ended, with their standings
+    /games/GAME.answers                  what the bots answered, turn by turn, as far as it is kept
+    /bracket.json                        the matches and tables of a tournament
+    /about.json                          the ladder's name, what is played, and how a bot enters
     /looks.json                          the colour and the mark of each bot
     /bots/NAME.json                      how a bot did
 """
@@ -24,13 +27,16 @@ from typing import Any
 
 from aiohttp import web
 
+from arena_ladder.about import about_of
 from arena_ladder.feed import REST, Feed
 from arena_ladder.history import games_of, ratings_over_time, record_of
+from arena_ladder.kept_answers import rows_of_answers
 from arena_ladder.packs import commands_of
 from arena_ladder.pairing import GAME_NAME
 from arena_ladder.seasons import seasons_of
 from arena_ladder.standings import standings_of
 from arena_ladder.store import Store, StoreFault, open_store
+from arena_ladder.tournament_commands import tournament_of
 from arena_ladder.transcripts import NoTranscript, Transcripts
 from arena_ladder.viewer_page import VIEWER
 
@@ -105,6 +111,9 @@ class Calls:
             web.get("/bots/{bot}.json", self.bot),
             web.get("/games/{game}.jsonl", self.commands),
             web.get("/games/{game}.transcript", self.transcript),
+            web.get("/games/{game}.answers", self.game_answers),
+            web.get("/bracket.json", self.bracket),
+            web.get("/about.json", self.about),
         ]
 
     async def standings(self, request: web.Request) -> web.Response:
@@ -159,6 +168,20 @@ class Calls:
             raise web.HTTPInternalServerError(text=str(fault)) from None
         return await send_text(request, text)
 
+    async def game_answers(self, request: web.Request) -> web.Response:
+        game = await self.game_in(request)
+        return web.json_response(await asyncio.to_thread(rows_of_answers, self.folder, game))
+
+    async def about(self, request: web.Request) -> web.Response:
+        return web.json_response(
+            await self.answers.get("about", lambda store: about_of(store, self.folder))
+        )
+
+    async def bracket(self, request: web.Request) -> web.Response:
+        return web.json_response(
+            await self.answers.get("bracket", lambda store: bracket_of(store, self.folder))
+        )
+
 
 async def send_text(request: web.Request, text: bytes, kind: str = PLAIN) -> web.StreamResponse:
     """Sends a text piece by piece, so that no slow reader has a copy of it in memory."""
@@ -170,6 +193,16 @@ async def send_text(request: web.Request, text: bytes, kind: str = PLAIN) -> web
             await response.write(text[at : at + PIECE])
         await response.write_eof()
     return response
+
+
+def bracket_of(store: Store, folder: Path) -> dict[str, Any]:
+    """The matches and tables of a tournament."""
+    tournament = tournament_of(store, folder)
+    return {
+        "stages": tournament.stages(),
+        "tables": tournament.tables(),
+        "champion": tournament.champion,
+    }
 
 
 def rows_of(store: Store) -> list[dict[str, Any]]:

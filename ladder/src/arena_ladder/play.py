@@ -8,11 +8,12 @@ import threading
 from collections.abc import Awaitable, Sequence
 from concurrent.futures import ThreadPoolExecutor
 from contextlib import suppress
-from dataclasses import dataclass
+from dataclasses import dataclass, replace
 from pathlib import Path
 
 from arena_client import BLOCKS_OF_GAME, HostDied, Refused
 from arena_ladder import packs
+from arena_ladder.about import write_about
 from arena_ladder.bots import BotClient, NoLook
 from arena_ladder.config import ENDLESS, Bot, Config
 from arena_ladder.endless import Endless
@@ -49,6 +50,7 @@ class Job:
 async def play(job: Job, store: Store, watches: Sequence[Watch]) -> None:
     """Plays the games of a job that are not in the store."""
     store.begin(job.config.identity, job.config.bots)
+    write_about(replace(job.config, folder=job.folder))
     config = job.config
     is_listed = not (config.is_endless or config.is_tournament)
     fixtures = fixtures_of(config, job.part) if is_listed else []

@@ -13,6 +13,7 @@ from typing import Any
 from rich.table import Table
 from rich.text import Text
 
+from arena_ladder.marks import Mark, mark_of, marks_of
 from arena_ladder.misses import Miss
 from arena_ladder.outcome import SeatResult
 from arena_ladder.quantiles import quantile
@@ -33,11 +34,13 @@ class Standing:
     rating: Rating = Rating(0.0, 0.0)
     latencies: Mapping[int, int] = field(default_factory=dict)
     missed: Mapping[Miss, int] = field(default_factory=dict)
+    mark: Mark = Mark.NONE
 
     def row(self) -> dict[str, Any]:
         """The columns of the standings by their names, with each cause of missed moves."""
         return {
             "bot": self.bot,
+            "mark": self.mark,
             "games": self.games,
             "wins": self.results[SeatResult.WIN],
             "draws": self.results[SeatResult.DRAW],
@@ -56,6 +59,7 @@ class Standing:
 def standings_of(store: Store) -> list[Standing]:
     """The standings of the games that are done, from the highest rating to the lowest."""
     missed, latencies = store.missed(), store.latencies()
+    marks = marks_of(store)
     table = {bot.name: Standing(bot.name) for bot in store.bots()}
     for bot, result, games, turns in store.results_of_bots():
         standing = table[bot]
@@ -67,6 +71,7 @@ def standings_of(store: Store) -> list[Standing]:
         standing.rating = rated[name]
         standing.latencies = latencies.get(name, {})
         standing.missed = missed.get(name, {})
+        standing.mark = mark_of(marks, name, standing.games)
     return sorted(table.values(), key=place_of)
 
 
@@ -79,9 +84,11 @@ def comparisons_of(store: Store, names: list[str]) -> Comparisons:
     return compared
 
 
-def place_of(standing: Standing) -> tuple[float, int, str]:
-    """The sort key: rating, then turns lived, which decide in solo, then name."""
-    return (-round(standing.rating.elo, 6), -standing.turns, standing.bot)
+def place_of(standing: Standing) -> tuple[bool, float, int, str]:
+    """The sort key: rating, then turns lived, which decide in solo, then name; the bots that were
+    removed come last."""
+    is_gone = standing.mark is Mark.REMOVED
+    return (is_gone, -round(standing.rating.elo, 6), -standing.turns, standing.bot)
 
 
 def as_table(standings: Iterable[Standing]) -> Table:
@@ -101,8 +108,9 @@ def cells_of(standing: Standing) -> list[str]:
     numbers = ("games", "wins", "draws", "losses", "turns", "elo", "error")
     times = ["-" if row[name] is None else f"{row[name]} ms" for name in ("median_ms", "p99_ms")]
     causes = ", ".join(f"{cause} {row[cause]}" for cause in Miss if row[cause]) or "-"
+    mark = f" ({row['mark']})" if row["mark"] else ""
     return [
-        fit_text(row["bot"]),
+        fit_text(row["bot"]) + mark,
         *(str(row[name]) for name in numbers),
         *times,
         str(row["missed"]),

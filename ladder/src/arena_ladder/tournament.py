@@ -27,7 +27,7 @@ class Tournament:
         self.results = results
         self.bots = [bot.name for bot in config.bots]
         self.seeds = {bot: at for at, bot in enumerate(self.bots, 1)}
-        self.draws = Draws(config.seed, config.games)
+        self.draws = Draws(config.seed, config.games, self.seeds)
         self.groups: list[list[int]] = []
         self.matches: list[Match] = []
         if config.pairing == "swiss":

@@ -10,8 +10,10 @@ INSTALLED = HERE / "viewer"
 VIEWER = INSTALLED if INSTALLED.is_dir() else HERE.parents[2] / "viewer"  # of the repository
 
 
-def viewer_page(title: str, transcript: bytes) -> str:
+def viewer_page(title: str, transcript: bytes, answers: str = "[]") -> str:
     """The text of the page, which loads the viewer's scripts by their paths on this machine.
+
+    `answers` are those of the bots, as JSON.
 
     JSON's escape for `<` keeps the transcript from ending its element.
     """
@@ -19,5 +21,7 @@ def viewer_page(title: str, transcript: bytes) -> str:
     page = re.sub(r'\b(src|href)="(?=[a-z_])(?!data:)', rf'\1="{VIEWER.as_uri()}/', page)
     text = transcript.decode().replace("<", "\\u003c")
     held = f'<script type="text/plain" id="transcript" title="{title}">{text}</script>\n'
+    more = answers.replace("<", "\\u003c")
+    held += f'<script type="text/plain" id="answers">{more}</script>\n'
     scripts = page.index("<script src=")
     return page[:scripts] + held + page[scripts:]

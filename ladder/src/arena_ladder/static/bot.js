@@ -16,6 +16,31 @@ function chartOf(ratings) {
   return { low, high, first, last, x, y };
 }
 
+/** Round numbers between two, some five of them. */
+function marksBetween(low, high) {
+  const wide = Math.max(1, high - low) / 6;
+  const ten = 10 ** Math.max(0, Math.floor(Math.log10(wide)));
+  const step = [1, 2, 2.5, 5, 10].map((it) => it * ten).find((it) => it >= wide);
+  const marks = [];
+  for (let mark = Math.ceil(low / step) * step; mark <= high; mark += step) {
+    marks.push(Math.round(mark));
+  }
+  return marks;
+}
+
+/** Labels the axes: ratings on the left, each at its line, and games below. */
+function showAxes(chart, marks) {
+  const place = (elo) => `${(100 * chart.y(elo)) / 200}%`;
+  const label = (elo) => {
+    const words = made('span', {}, elo.toLocaleString('en'));
+    words.style.top = place(elo);
+    return words;
+  };
+  document.getElementById('elos').replaceChildren(...marks.map(label));
+  const games = (count) => made('span', {}, `game ${count.toLocaleString('en')}`);
+  document.getElementById('counts').replaceChildren(games(chart.first), games(chart.last));
+}
+
 /** Draws a rating over time with the band of its error. */
 function drawRatings(svg, words, ratings) {
   if (ratings.length === 0) {
@@ -26,7 +51,11 @@ function drawRatings(svg, words, ratings) {
   const point = (games, elo) => `${chart.x(games).toFixed(1)} ${chart.y(elo).toFixed(1)}`;
   const above = ratings.map(([games, elo, error]) => point(games, elo + error));
   const below = ratings.map(([games, elo, error]) => point(games, elo - error)).reverse();
+  const marks = marksBetween(chart.low, chart.high);
+  showAxes(chart, marks);
   svg.replaceChildren(
+    ...marks.map((elo) => drawn('path', { class: 'grid', 'vector-effect': 'non-scaling-stroke',
+      d: `M${CHART.left} ${chart.y(elo).toFixed(1)}H${CHART.right}` })),
     drawn('path', { class: 'band', d: `M${[...above, ...below].join('L')}Z` }),
     drawn('path', {
       class: 'rating',
@@ -56,8 +85,9 @@ function numbersOf({ place, standing, moves }) {
   const { wins, draws, losses, missed } = standing;
   const causes = missed > 0 ? ` (${wordsOfCauses(standing)})` : '';
   return [
-    `place ${place}`, `Elo ${standing.elo} ± ${standing.error}`,
-    `${standing.games} games: ${wins} won, ${draws} drawn, ${losses} lost`,
+    standing.mark === 'removed' ? 'removed' : `place ${place}${standing.mark && ` (${standing.mark})`}`,
+    `Elo ${standing.elo} ± ${standing.error}`,
+    `${counted(standing.games, 'game')}: ${wins} won, ${draws} drawn, ${losses} lost`,
     `latency ${inMs(standing.median_ms)}, 99 % ${inMs(standing.p99_ms)}`,
     `${missed} of ${moves} moves missed${causes}`,
   ].map((words) => made('span', {}, words));
@@ -78,6 +108,11 @@ function showRecord(record) {
 async function beginBotPage() {
   const bot = new URLSearchParams(location.search).get('bot') ?? '';
   document.title = `${bot} – Ladder`;
+  const about = await fetchJson('about.json');
+  if (about) {
+    showTitle(about, bot);
+    document.getElementById('home').textContent = about.name;
+  }
   const looks = await fetchJson('looks.json');
   setLooks(looks ?? {});
   document.getElementById('name').replaceChildren(swatchPicture(bot, 0), ` ${bot}`);

@@ -1,8 +1,8 @@
-// The boards of running games, and of those that ended some seconds ago. At most twelve are shown.
+// The boards of running games, at most twelve, and of those that ended some seconds ago.
 'use strict';
 
 const MOST_CARDS = 12;
-const MOST_ENDED_CARDS = 6; // while other games wait for a place
+const MOST_ENDED_CARDS = 4;
 
 /** A list item of a snake: its bot, its health as a bar, and its length; or that it is out. */
 function snakeItem(snake, seat) {
@@ -64,9 +64,9 @@ class GameCard {
 
 /** All boards that the server has sent, and the cards of some of them. */
 class Boards {
-  constructor(place, words) {
-    this.place = place;
-    this.words = words;
+  /** `page` has the places of running games and of ended ones, and of a line about them. */
+  constructor(page) {
+    this.page = page;
     this.boards = new Map();
     this.ended = new Map();
     this.cards = new Map();
@@ -103,41 +103,42 @@ class Boards {
     this.cards.get(name)?.show(this.boards.get(name), this.ended.get(name) ?? null);
   }
 
-  /** The games that can be shown, by whether they have ended. */
+  /** The games that can be shown, by whether they have ended; those that ended last come first. */
   candidates() {
     const isWanted = ([, board]) => this.bot === ''
       || board.snakes.some((snake) => snake.id === this.bot);
     const names = [...this.boards].filter(isWanted).map(([name]) => name);
-    const isEnded = (name) => this.ended.has(name);
-    return { running: names.filter((name) => !isEnded(name)), ended: names.filter(isEnded) };
+    const ended = [...this.ended.keys()].reverse().filter((name) => names.includes(name));
+    return { running: names.filter((name) => !this.ended.has(name)), ended };
   }
 
-  /** Gives the places to games. A game keeps its place; running games come before others. */
+  /** Gives the places to games. A running game keeps its place until it ends. */
   arrange() {
     const { running, ended } = this.candidates();
-    const waiting = [...running, ...ended].filter((name) => !this.cards.has(name));
-    const runningWaiting = waiting.filter((name) => !this.ended.has(name)).length;
-    const room = MOST_CARDS - this.cards.size;
-    const endedCards = ended.filter((name) => this.cards.has(name));
-    const surplus = Math.min(endedCards.length - MOST_ENDED_CARDS, runningWaiting - room);
-    const stays = new Set([...running, ...ended]);
-    endedCards.slice(0, Math.max(0, surplus)).forEach((name) => stays.delete(name));
+    const last = ended.slice(0, MOST_ENDED_CARDS);
+    const waiting = running.filter((name) => !this.cards.has(name));
     for (const [name, card] of [...this.cards]) {
-      if (!stays.has(name)) {
-        this.replace(name, card, waiting.shift());
+      if (card.item.parentNode === this.page.games && !running.includes(name)) {
+        this.replace(card, waiting.shift());
+      }
+      if (!running.includes(name) && !last.includes(name)) {
+        card.item.remove();
+        this.cards.delete(name);
       }
     }
-    while (this.cards.size < MOST_CARDS && waiting.length > 0) {
-      this.place.append(this.made(waiting.shift()).item);
+    while (this.page.games.childElementCount < MOST_CARDS && waiting.length > 0) {
+      this.page.games.append(this.made(waiting.shift()).item);
     }
-    const shown = running.filter((name) => this.cards.has(name)).length;
-    this.words.textContent = shown < running.length
+    this.page.ended.replaceChildren(
+      ...last.map((name) => (this.cards.get(name) ?? this.made(name)).item));
+    this.page.ended_part.hidden = last.length === 0;
+    const shown = this.page.games.childElementCount;
+    this.page.shown.textContent = shown < running.length
       ? `${shown} of ${running.length} are shown: choose a bot to see its games.` : '';
   }
 
   /** Puts another game in the place of a card, or removes it if there is none. */
-  replace(name, card, other) {
-    this.cards.delete(name);
+  replace(card, other) {
     if (other === undefined) {
       card.item.remove();
     } else {

@@ -3,11 +3,15 @@
 
 const GAMES_A_PAGE = 20;
 
+function wordsOfMissed({ missed }) {
+  return missed > 0 ? `missed ${counted(missed, 'move')}` : '';
+}
+
 function finishedItem({ game, turns, seats }) {
   const bots = seats.map((seat) => made('span', { className: seat.result === 'win' ? 'won' : '' },
-    botLabel(seat.bot), wordsOfEnd(seat), seat.missed > 0 ? ` missed ${seat.missed} moves` : ''));
+    botLabel(seat.bot), [wordsOfEnd(seat), wordsOfMissed(seat)].filter((it) => it).join('; ')));
   const item = made('li', {}, gameLink(game), made('span', { className: 'turn' },
-    ` ${turns.toLocaleString('en')} turns`), made('div', { className: 'bots' }, ...bots));
+    ` ${turns === 1 ? '1 turn' : `${turns.toLocaleString('en')} turns`}`), made('div', { className: 'bots' }, ...bots));
   item.dataset.game = game;
   return item;
 }

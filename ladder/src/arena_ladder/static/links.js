@@ -3,7 +3,10 @@
 
 /** The address of a finished game in the viewer. */
 function addressOfGame(game) {
-  const words = { file: `../games/${game}.transcript`, looks: '../looks.json' };
+  const file = `../games/${game}.transcript`;
+  const answers = `../games/${game}.answers`;
+  const back = `../${location.pathname.split('/').at(-1)}${location.search}`;
+  const words = { file, looks: '../looks.json', answers, back };
   return `viewer/index.html?${new URLSearchParams(words)}`;
 }
 
@@ -23,6 +26,20 @@ function wordsOfEnd({ result, out, cause, killer }) {
   const words = { win: 'won', draw: 'drew', loss: '', '': '' }[result] ?? '';
   const fate = cause === null || result === 'win' ? '' : fateOf({ out, cause, by: killer });
   return [words, fate].filter((it) => it !== '').join(', ');
+}
+
+/** A number of things in words. */
+function counted(count, thing) {
+  return `${count} ${thing}${count === 1 ? '' : 's'}`;
+}
+
+/** Names the page after its ladder. */
+function showTitle(about, title) {
+  document.title = title === about.name ? title : `${title} – ${about.name}`;
+  const heading = document.getElementById('title');
+  if (heading) {
+    heading.textContent = title;
+  }
 }
 
 function inMs(value) {

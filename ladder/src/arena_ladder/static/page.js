@@ -3,20 +3,45 @@
 'use strict';
 
 const REFRESH_MS = 2000;
+const FEW_BOTS = 20; // in the standings, until all are asked for
+
+/** The rating with its error, which a phone has no room for. */
+function ratingCell(row) {
+  const error = made('span', { className: 'large faint' }, ` ± ${row.error}`);
+  return made('td', { className: 'number' }, String(row.elo), error);
+}
+
+/** The change of a rating since a day ago; nothing if it is not known. */
+function dayCell({ day }) {
+  const known = day ?? null;
+  const words = known === null ? '' : `${known > 0 ? '+' : ''}${known}`;
+  const kind = known > 0 ? 'up' : known < 0 ? 'down' : '';
+  return made('td', { className: `number day ${kind}` }, words);
+}
 
 /** The cells of a row of the standings, after the bot's name. */
 function cellsOf(row) {
   const number = (value, more = '') => made('td', { className: `number ${more}` }, String(value));
+  const missed = number(row.missed);
+  missed.title = wordsOfCauses(row);
   return [
-    number(row.games), number(row.wins), number(row.draws, 'large'), number(row.losses),
-    number(`${row.elo} ± ${row.error}`), number(inMs(row.median_ms)),
-    number(inMs(row.p99_ms), 'large'), number(row.missed),
-    made('td', { className: 'large' }, wordsOfCauses(row)),
+    ratingCell(row), dayCell(row), number(row.games), number(row.wins, 'large'),
+    number(row.draws, 'large'), number(row.losses, 'large'), number(inMs(row.median_ms)),
+    number(inMs(row.p99_ms), 'large'), missed,
   ];
 }
 
-function standingsRow(row) {
-  const line = made('tr', {}, made('th', { scope: 'row' }, botLabel(row.bot)), ...cellsOf(row));
+/** What a reader has to know of a bot: that it is new, rests, or was removed. */
+function markOf({ mark }) {
+  return mark ? [made('span', { className: `mark-word ${mark}` }, mark)] : [];
+}
+
+/** A row of the standings. Bots that were removed have no place. */
+function standingsRow(row, index) {
+  const place = row.mark === 'removed' ? '' : String(index + 1);
+  const line = made('tr', { className: row.mark === 'removed' ? 'gone' : '' },
+    made('td', { className: 'number place' }, place),
+    made('th', { scope: 'row' }, botLabel(row.bot), ...markOf(row)), ...cellsOf(row));
   line.dataset.bot = row.bot;
   return line;
 }
@@ -29,7 +54,15 @@ class LadderPage {
     this.seed = element('seed');
     this.filter = element('filter');
     this.standings = document.querySelector('#standings tbody');
-    this.boards = new Boards(element('games'), element('shown'));
+    const places = ['games', 'ended', 'ended_part', 'shown'].map((id) => [id, element(id)]);
+    this.boards = new Boards(Object.fromEntries(places));
+    this.rows = [];
+    this.isWhole = false;
+    this.allBots = element('all_bots');
+    this.allBots.addEventListener('click', () => {
+      this.isWhole = true;
+      this.showStandings();
+    });
     this.finished = new FinishedGames(element('finished'), element('more'));
     this.games = '';
     this.gamesShown = '';
@@ -66,11 +99,21 @@ class LadderPage {
     }
     if (state.standings) {
       this.seed.textContent = state.seed;
-      this.standings.replaceChildren(...state.standings.map(standingsRow));
+      this.rows = state.standings;
+      this.showStandings();
       this.showChoices(state.bots);
+      showAbout(state.about);
       this.boards.drawAll();
     }
     this.boards.take(state);
+  }
+
+  /** Shows the best bots, or all if that was asked for. */
+  showStandings() {
+    const shown = this.isWhole ? this.rows : this.rows.slice(0, FEW_BOTS);
+    this.standings.replaceChildren(...shown.map(standingsRow));
+    this.allBots.hidden = shown.length === this.rows.length;
+    this.allBots.textContent = `All ${this.rows.length} bots`;
   }
 
   /** Offers the bots in the filter. */
@@ -83,6 +126,16 @@ class LadderPage {
         bot === '' ? 'all bots' : bot);
       this.filter.replaceChildren(...wanted.map(option));
     }
+  }
+}
+
+/** Says what is played, and how a bot enters. */
+function showAbout(about) {
+  if (about) {
+    showTitle(about, about.name);
+    document.getElementById('facts').textContent = about.facts.join(', ');
+    document.getElementById('enter').textContent = about.enter;
+    document.getElementById('bracket_link').hidden = !about.is_tournament;
   }
 }
 

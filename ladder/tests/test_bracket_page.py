@@ -1,0 +1,56 @@
+"""The page of a tournament in Chromium, wide and narrow."""
+
+from __future__ import annotations
+
+from pathlib import Path
+
+import pytest
+from served import SMALL, Served, write_config
+from test_results_page import NARROW, WIDE, fits, page_of, resize
+from test_tournaments import play_here
+from testing import chromium  # of viewer/
+
+SHOWN = """
+const texts = (selector) => [...document.querySelectorAll(selector)].map((it) => it.textContent);
+return { titles: texts('.stage h3'), tables: texts('#tables h2'), champion: texts('#champion')[0],
+  matches: document.querySelectorAll('.match').length, won: texts('.match .won .bot') };
+"""
+
+
+@pytest.mark.parametrize("kind", ["double_elimination", "groups"])
+def test_bracket_is_looked_at(
+    program: Path, small_bots: Served, browser: chromium.Browser, tmp_path: Path, kind: str
+) -> None:
+    """All matches are there, stage by stage; a game of one opens in the viewer."""
+    path = write_config(
+        tmp_path / "cup.toml",
+        [(name, small_bots.url(name)) for name in SMALL],
+        **{"folder": str(tmp_path / "cup"), "pairing": kind, "games": 2, "turns": 20},
+        **{"timeout": 5000, "seed": 1, "name": "Autumn cup"},
+    )
+    with page_of(play_here(path, program), program) as (_, address):
+        browser.complaints()
+        for size in (WIDE, NARROW):
+            resize(browser, size)
+            browser.go(f"{address}bracket.html")
+            browser.wait("return document.querySelectorAll('.match').length > 3", seconds=60)
+            shown = browser.run(SHOWN)
+            assert shown["champion"].endswith(" has won the tournament")
+            if kind == "groups":
+                assert shown["tables"] == ["Group A", "Group B"]
+                assert shown["titles"] == ["Group A", "Group B", "Semifinals", "Final"]
+                assert shown["matches"] == 3 + 1 + 2 + 1
+            else:
+                assert shown["titles"][:3] == [
+                    *("Winners: Quarterfinals", "Winners: Semifinals", "Winners: Final")
+                ]
+                assert shown["titles"][-2:] == ["Grand final", "Second final"]
+                assert shown["matches"] == 7 + 6 + 2
+            assert shown["won"] and fits(browser)
+            assert browser.run("return document.title") == "Autumn cup"
+        browser.click(".match .games a")
+        browser.wait("return document.body.dataset.state === 'open'", seconds=60)
+        browser.click("#back_link")
+        browser.wait("return document.querySelectorAll('.match').length > 3", seconds=60)
+        assert browser.complaints() == []
+    resize(browser, (1500, 1250))
