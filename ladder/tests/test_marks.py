@@ -2,6 +2,7 @@
 
 from __future__ import annotations
 
+import asyncio
 import json
 from contextlib import closing
 from datetime import date
@@ -14,10 +15,14 @@ from served import run_ladder
 from arena_ladder.about import about_of, write_about
 from arena_ladder.config import ConfigFault, config_of
 from arena_ladder.days import MOST_DAYS, with_days
+from arena_ladder.game_files import make_folders
 from arena_ladder.marks import FEW_GAMES
 from arena_ladder.outcome import Finish, Outcome, SeatResult, Tally
+from arena_ladder.pairing import Part
+from arena_ladder.play import Job, play
 from arena_ladder.roster import add, add_config_bots, mark, replace
 from arena_ladder.store import Store
+from arena_ladder.watch import Watch
 
 BOTS = [{"name": name, "url": "http://127.0.0.1:1"} for name in ("a", "b", "c", "d")]
 
@@ -64,6 +69,28 @@ def test_new_resting_and_removed_bots_are_marked(folder: Path) -> None:
     assert dict(marked(folder))["c"] == "new"
     table = run_ladder("standings", folder).stdout
     assert "a (removed)" in table and "b (rests)" in table
+
+
+class Says(Watch):
+    """Keeps messages."""
+
+    def __init__(self) -> None:
+        self.said: list[str] = []
+
+    def say(self, text: str) -> None:
+        self.said.append(text)
+
+
+def test_bot_that_is_gone_is_named_once(program: Path, tmp_path: Path) -> None:
+    """At a start, and at each later one."""
+    config = endless(tmp_path, rounds=1, timeout=2000)
+    make_folders(tmp_path)
+    for _ in range(2):
+        says = Says()
+        with closing(Store(tmp_path)) as store:
+            asyncio.run(play(Job(config, tmp_path, Part(1, 1), program), store, [says]))
+        named = [line.split()[0] for line in says.said if "did not say how it looks" in line]
+        assert sorted(named) == ["a", "b", "c", "d"]
 
 
 def test_changes_are_since_the_last_earlier_day(tmp_path: Path) -> None:

@@ -145,6 +145,7 @@ class Run:
         self.ends = threading.Event()
         self.packing_lock = asyncio.Lock()
         self.changes: list[Change] = []  # of the roster
+        self.asked = {(bot.name, bot.url) for bot in context.config.bots}  # for their looks
         self.said: set[str] = set()
         self.context = context
         self.store = store
@@ -180,11 +181,12 @@ class Run:
         return Schedule(fixtures, config.games_a_bot, self.ends_at)
 
     def heed(self, changes: list[Change]) -> None:
-        """Takes changes of the roster: new addresses, and bots whose looks are not known."""
+        """Takes changes of the roster: new addresses, whose bots are asked for their looks."""
         self.changes += changes
         self.context.urls.update(urls_of(self.changes, self.context.config.bots))
-        fresh = {it.bot for it in changes if it.url} - self.context.looks.keys()
-        bots = [Bot(name, self.context.urls[name]) for name in sorted(fresh)]
+        fresh = {(it.bot, self.context.urls[it.bot]) for it in changes if it.url} - self.asked
+        self.asked |= fresh
+        bots = [Bot(*it) for it in sorted(fresh)]
         looks = ask_looks(bots, self.context.client, self.context.looks, self.context.watch)
         task = asyncio.get_running_loop().create_task(looks)
         self.asking.add(task)
