@@ -32,6 +32,12 @@ TURN = (
     "(/Turn ([0-9]+) of ([0-9]+)/.exec(document.getElementById('turn').textContent) ?? [])"
     ".slice(1).map(Number)"
 )
+PAUSE = """
+const button = document.getElementById('play');
+if (button.textContent === 'Pause') {
+  button.click();
+}
+"""
 SHOWN = """
 const [games] = arguments;
 const seats = [...document.querySelectorAll('#standings tbody tr')]
@@ -286,7 +292,7 @@ def test_finished_game_and_bot_are_looked_at(
     browser.click("#finished li a")
     browser.wait("return document.body.dataset.state === 'open'", seconds=60)
     browser.wait(f"return {TURN}[0] > 1", seconds=60)  # it plays by itself
-    browser.click("#play")
+    browser.run(PAUSE)
     last = browser.run(f"return {TURN}[1]")
     browser.click("#first")
     browser.wait(f"return {TURN}[0] === 0", seconds=60)
