@@ -1,5 +1,6 @@
 """Command files of known shape and any size, which benches/measure.py times and tests serve."""
 import itertools
+import json
 
 from program import line
 
@@ -261,6 +262,12 @@ def ladder_games(rounds):
     yield from rounds_of(games, rounds, ROUND, moves)
 
 
+def spaced_games(rounds):
+    """The file of `ladder_games` as Python's json writes it, with spaces and CRLF."""
+    for text in ladder_games(rounds):
+        yield json.dumps(json.loads(text)) + "\r"
+
+
 def short_commands(count):
     """Short commands that change nothing: `turn` commands for turns without a record."""
     yield plan(["g"], 4096)
@@ -278,6 +285,7 @@ SHAPES = [
     ("wrapped, eight snakes", wrapped, 8, lambda rounds: 8 * ROUND * rounds),
     ("hazards, eight snakes", hazards, 8, lambda rounds: 8 * ROUND * rounds),
     ("64 games of a ladder", ladder_games, 5, lambda rounds: 64 * ROUND * rounds),
+    ("64 games, with spaces", spaced_games, 5, lambda rounds: 64 * ROUND * rounds),
     ("64 of many stays", stays, 2_000, lambda count: STAYED * count),
     ("short commands", short_commands, 200_000, lambda count: 0),
 ]

@@ -5,6 +5,7 @@ pub mod CutTexts
 pub mod Floats
 pub mod LineBounds
 pub mod Lines
+pub mod MinifiedLines
 pub mod OrderedMoves
 pub mod Puts
 pub mod ReplyText

@@ -1,5 +1,6 @@
 -- What private contracts cite, and no public one.
 pub mod BoardText
 pub mod Compact
+pub mod Minified
 pub mod Replies
 pub mod Sorted

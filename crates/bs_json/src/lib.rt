@@ -8,6 +8,7 @@ mod compact;
 mod limits;
 pub mod line;
 mod line_bounds;
+mod minified;
 mod moves;
 mod ordered_moves;
 mod pieces;

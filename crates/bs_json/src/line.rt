@@ -9,6 +9,7 @@ ghost use Rattle.bs_json.specs.Values.{text_at};
 use crate::commands::command_of;
 use crate::compact::compact_line;
 use crate::limits::MAX_LINE;
+use crate::minified::spaced_line;
 use crate::plan::row_from;
 use crate::values::{id_at, parsed, text_at};
 use bs_board::{Command, Id, Row, Version};
@@ -55,13 +56,13 @@ pub enum Line {
     Leave { game: Option<Id> },
 }
 
-fn is_space(byte: u8) -> bool
+pub(crate) fn is_space(byte: u8) -> bool
     ensures { result ≡ is_space byte }
 {
     matches!(byte, b' ' | b'\t' | b'\n' | b'\r')
 }
 
-fn is_blank(line: &[u8]) -> bool
+pub(crate) fn is_blank(line: &[u8]) -> bool
     ensures { result ≡ list_all is_space line.now }
 {
     line.iter().all(|byte| is_space(*byte))
@@ -139,6 +140,9 @@ pub fn read_line(alloc: Global, line: &[u8], version: Version) -> Result<Line, A
     }
     if is_blank(line) {
         return Ok(Line::Blank);
+    }
+    if let Some(found) = spaced_line(alloc, line)? {
+        return Ok(found);
     }
     match parsed(alloc, line)? {
         Some(mut value) => line_from(alloc, version, &mut value),

@@ -51,6 +51,20 @@ a: move s Down t Right u Left|{"game":"a","do":"move","moves":{"t":"up","s":"up"
 a: move s Down 7 10|{"game":"a","do":"move","moves":{"s":"up","s":"down"},"words":[7,10]}
 a: move s Down|{"game":"a","do":"move","moves":{"t":"up","s":"down","t":"Up"}}
 a: move gs_WVH7vQX8 Up gs_mYk4Pphr Left gs_mYk4Pphx Right 3|{"game":"a","do":"move","moves":{"gs_mYk4Pphx":"right","gs_WVH7vQX8":"up","gs_mYk4Pphr":"left"},"words":[3]}
+a: move s Left t Up 7 10| { "game" : "a" ,"do": "move", "moves": { "t" : "up", "s" :"left" } , "words" : [ 7 , 10 ] } 
+a: turn 9|{"game": "a", "do": "turn", "at": 9 }
+a: turn 0| {"game":"a","do":"turn","at":0 }
+stray Json|{"game": "a", "do": "turn", "at": 1 0}
+stray Json|{"game": "a", "do": "turn", "at": 0 9}
+stray Json|{"game": "a", "do": "turn", "at": 00 }
+stray Json|{"game": "a", "do": "turn", "at": 9"}
+a b: show|{"game": "a b", "do": "show"}
+a: move s t Up|{"game": "a", "do": "move", "moves": {"s t": "up", "u": " up"}}
+a: bad|{"game": "a", "do": "show "}
+stray Json|{"game": "a", "do": "show"} x
+stray Json|{"game": "a", "do" "show"}
+stray Json|{"game": "a", , "do": "show"}
+stray Json|{"game": "a", "do": "show
 a: move s Left 7 10|{"game":"a","do":"move","moves":{"s":"left"},"words":[7,10]}
 a: move s Left|{"game":"a","do":"move","moves":{"s":"left"},"words":[]}
 a: move s Left 7|{"game":"a","do":"move","moves":{"s":"left"},"words":[7],"more":0}
@@ -83,6 +97,15 @@ fn lines_are_read(rt: HostRuntime) -> Result<(), Fail> {
         }
     }
     Ok(())
+}
+
+#[test]
+fn white_space_between_tokens_is_dropped(rt: HostRuntime) -> Result<(), Fail> {
+    let line = "\t{\r\"game\"\t:\"a\"\r,\"do\":\t\"move\",\"moves\":{\"t\":\"up\",\t\"s\":\"left\"\t}}\r";
+    is_read(rt.alloc(), line, Version::Five, "a: move s Left t Up")?;
+    let cut = "{\"game\": \"a\", \"do\": \"sh\tow\"}\r";
+    is_read(rt.alloc(), cut, Version::Five, "stray Json")?;
+    is_read(rt.alloc(), "\t\r \r", Version::Five, "blank")
 }
 
 const NEW_WRAPPED: &str =
