@@ -21,7 +21,8 @@ right: low
 tests_left: left
 arena: left right
 """
-TOOLS = ["arena", "KIT", "tools/package", "tools/prove", "tools/proved.py", "tools/stamps.py"]
+TOOLS = [ROOT / it for it in ("arena", "KIT", "tools/package", "tools/prove")]
+TOOLS += (ROOT / "tools").glob("*.py")
 CRATES = ["low", "left", "right", "arena"]
 PROVER = '''#!/usr/bin/env python3
 """Notes each call, takes as long as the sources say, and builds what prints its sources."""
@@ -73,7 +74,7 @@ class Place:
         (root / "crates.txt").write_text(LISTED)
         (root / "tools").mkdir()
         for file in TOOLS:
-            shutil.copy(ROOT / file, root / file)
+            shutil.copy(file, root / file.relative_to(ROOT))
         return root
 
     def run(self, root: Path, *words: str, **more: str) -> subprocess.CompletedProcess[str]:
