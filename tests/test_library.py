@@ -158,6 +158,14 @@ class TestMemory:
         assert "refused" in ran(compiled(ROOT / "bindings/c/refused.c", tmp_path, wraps))
 
 
+class TestAdvance:
+    """One step of many environments in one call."""
+
+    def test_as_turns_starts_and_planes(self, tmp_path):
+        said = ran(compiled(ROOT / "bindings/c/advance.c", tmp_path), "400")
+        assert said.startswith("800 steps") and said.endswith("turns agree\n")
+
+
 class TestLayout:
     """The declarations of each binding; those of C and Rust are compared by their replays."""
 

@@ -3,7 +3,8 @@ import re
 
 BY_HAND = ("Answers.antt", "Proof.antt", "Invariants.antt")
 FUNCTION = re.compile(
-    r"^( *)(?:pub(?:\([a-z]+\))? +)?(?:const +)?(?:unsafe +)?fn +([a-z_0-9]+)", re.M
+    r"^( *)(?:pub(?:\([a-z]+\))? +)?(?:const +)?(?:unsafe +)?(?:extern +\"C\" +)?fn +([a-z_0-9]+)",
+    re.M,
 )
 IMPL = re.compile(
     r"^(?:unsafe )?impl(?:<[^{]*?>)? +(?:[A-Za-z:]+(?:<[^{]*?>)? +for +)?([A-Za-z]+)", re.M

@@ -182,15 +182,16 @@ static inline arena_seat_orders arena_orders(const uint8_t *moves, size_t moves_
 uint8_t arena_legal(const uint8_t *record, size_t record_len);
 
 /* Writes 1 if the game of the record is over, else 0. ARENA_OK, ARENA_NOT_A_RECORD,
- * ARENA_MEMORY. */
+ * ARENA_MEMORY. After anything but ARENA_OK nothing is written. */
 uint8_t arena_over(const uint8_t *record, size_t record_len, uint8_t *over);
 
-/* Writes the record of turn 0 and its length. ARENA_OK, ARENA_NOT_A_SETUP, ARENA_ROOM,
- * ARENA_MEMORY. After anything but ARENA_OK nothing is written. */
+/* Writes the record of turn 0 and its length, and nothing behind it. ARENA_OK, ARENA_NOT_A_SETUP,
+ * ARENA_ROOM, ARENA_MEMORY. After anything but ARENA_OK nothing is written. */
 uint8_t arena_start(const arena_seat_setup *setup, uint8_t *into, size_t room, size_t *length);
 
-/* Plays a turn: writes the record after it and its length. ARENA_OK, ARENA_NOT_A_RECORD,
- * ARENA_LAST_TURN, ARENA_ROOM, ARENA_MEMORY. After anything but ARENA_OK nothing is written. */
+/* Plays a turn: writes the record after it and its length, and nothing behind it. ARENA_OK,
+ * ARENA_NOT_A_RECORD, ARENA_LAST_TURN, ARENA_ROOM, ARENA_MEMORY. After anything but ARENA_OK
+ * nothing is written. */
 uint8_t arena_turn(const uint8_t *record, size_t record_len, const arena_seat_orders *orders,
                    uint8_t *into, size_t room, size_t *length);
 
@@ -267,7 +268,7 @@ typedef struct {
     size_t starts_len;
     const arena_cell *food; /* food_each cells for each game, all different */
     size_t food_len, food_each;
-    const uint8_t *which; /* a byte for each game: 0 leaves it as it is */
+    const uint8_t *which; /* a byte for each game: see `start` and `advance` */
     size_t which_len;
     arena_settings settings;
 } arena_many_starts;
@@ -290,8 +291,8 @@ static inline arena_many_starts arena_starts_of(size_t count, arena_settings set
 
 /* For both sizes, here written for the small one:
  *
- * arena_small_start starts games, and returns how many. One whose settings or cells are not those
- * of a first board is over, with no living snake.
+ * arena_small_start starts each game whose byte of `which` is not 0, and returns how many started.
+ * One whose settings or cells are not those of a first board is over, with no living snake.
  *
  * arena_small_step plays a turn in each game that is not over and is below turn 10,000.
  *
@@ -299,6 +300,21 @@ static inline arena_many_starts arena_starts_of(size_t count, arena_settings set
  * height bytes, row by row from the bottom. The first has 1 where food is. Then come those of the
  * seats, each 0 or, for a living snake, the number of turns until that part is gone, if nothing is
  * eaten, at most 255.
+ *
+ * arena_small_advance is one step of many environments, in one pass over the games. The byte of a
+ * game in `which` says what is done with it: 0, or no byte, plays its turn, as arena_small_step
+ * does; 1 starts it, as arena_small_start does; and both write its planes, as arena_small_planes
+ * does. Another byte leaves the game and its planes as they are. Returns how many started. `starts`
+ * is read for the games that start, `orders` for those that play. Nothing is drawn here, so that
+ * cells need to be drawn for the games that start alone.
+ *   - Environments that start a game anew in the step after its end (gymnasium's NEXT_STEP): one
+ *     call, with the `over` of each head, as it was after the last call, for `which`; 1 also where
+ *     the caller has cut a game off.
+ *   - In the step of its end (SAME_STEP): one call without bytes. If games are over then, their
+ *     planes and heads are the last ones, to be copied, and a second call, with 1 for these games
+ *     and 2 for all others, touches them alone. A reset of some games is that second call.
+ *   - An environment a seat: the same calls. Seat s of game i sees planes 0 and 1 + s first, and
+ *     the game starts anew once its last seat has been told of its end.
  *
  * arena_small_food lists the cells with food, the oldest first, and arena_small_body the parts of a
  * seat, its head first, as far as there is room. They return the number of cells.
@@ -315,6 +331,9 @@ static inline arena_many_starts arena_starts_of(size_t count, arena_settings set
     void arena_##size##_step(game *games, size_t count, const arena_many_orders *orders);          \
     void arena_##size##_planes(const game *games, size_t count, uint8_t *into, size_t into_len,    \
                                size_t each);                                                       \
+    size_t arena_##size##_advance(game *games, size_t count, const arena_many_orders *orders,      \
+                                  const arena_many_starts *starts, uint8_t *into, size_t into_len, \
+                                  size_t each);                                                    \
     size_t arena_##size##_food(const game *from, arena_place *into, size_t room);                  \
     size_t arena_##size##_body(const game *from, size_t seat, arena_place *into, size_t room);     \
     size_t arena_##size##_save(const game *from, uint8_t *into, size_t room);                      \

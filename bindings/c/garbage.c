@@ -56,6 +56,8 @@ static void mend(arena_head *head, int longest) {
         fill(record, 40);                                                                          \
         sum += arena_##size##_load(games + 2, record, drawn() % 2000);                             \
         sum += arena_##size##_start(games, 4, starts);                                             \
+        sum += arena_##size##_advance(games, 4, orders, starts, planes, sizeof planes,             \
+                                      drawn() % 7000);                                             \
         arena_##size##_step(games, 4, orders);                                                     \
         return sum;                                                                                \
     }

@@ -1,1 +1,4 @@
+pub mod Layout
+pub mod Loading
+pub mod Slots
 pub mod Status

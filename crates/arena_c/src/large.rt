@@ -1,16 +1,22 @@
 //! Large games of the caller, on boards of at most 25 by 25 cells.
 
-ghost use Rattle.std.specs.Prelude.{ℕ, ◌<◌, length, slice_index_or};
+ghost use Rattle.std.specs.Prelude.{◌≡◌, ℕ, ◌<◌, length, slice_index_or};
+ghost use Rattle.arena_c.specs.Loading.{IsLoadStatus};
+ghost use Rattle.bs_batch.specs.Advancing.{AdvancesLarge, ShowsAdvanced};
 ghost use Rattle.bs_batch.specs.declared.layout.LargeGame.{LargeGame as AnyGame};
+ghost use Rattle.bs_batch.specs.declared.layout.TheConstants.{LARGE_SIDE};
 ghost use Rattle.bs_batch.specs.Games.{StepsLarge, words_of};
+ghost use Rattle.bs_batch.specs.Listing.{ListsBody, ListsFood};
+ghost use Rattle.bs_batch.specs.Loading.{FitsGame, FitsSides};
+ghost use Rattle.bs_batch.specs.Saving.{SavesGameOf};
+ghost use Rattle.bs_batch.specs.Showing.{IsLargeBoard, ShowsEach};
 ghost use Rattle.bs_batch.specs.Starting.{StartsEach, StartsLarge, piece_of};
 
-use crate::status::{NOT_A_RECORD, OK, OUT_OF_MEMORY, status_of_misfit};
+use crate::status::{loaded, read, status_of};
 use bs_batch::{
-    LargeGame, ManyOrders, ManyStarts, Place, body_large, food_large, load_large, save_large,
-    show_large, start_large, step_large,
+    LargeGame, ManyOrders, ManyStarts, Place, advance_large, body_large, food_large, load_large,
+    save_large, show_large, start_large, step_large,
 };
-use bs_board::{Decode, decode};
 use std::alloc::Global;
 
 /// Starts each game whose byte of `which` is not 0, and returns the number of those that started. A
@@ -34,39 +40,63 @@ pub extern "C" fn arena_large_step(games: &mut [LargeGame], orders: &ManyOrders<
 /// Writes the planes of each game into its `each` bytes: its food, then its living snakes by their
 /// seats.
 #[unsafe(no_mangle)]
-pub extern "C" fn arena_large_planes(games: &[LargeGame], into: &mut [u8], each: usize) {
+pub extern "C" fn arena_large_planes(games: &[LargeGame], into: &mut [u8], each: usize)
+    ensures { ShowsEach IsLargeBoard games.now each into.new }
+{
     show_large(games, into, each);
+}
+
+/// One step of many environments: plays the turn of each game whose byte of `which` is 0, starts
+/// those whose byte is 1, and writes the planes of both. The other games and their planes stay.
+/// Returns the number of the games that started.
+#[unsafe(no_mangle)]
+pub extern "C" fn arena_large_advance(
+    games: &mut [LargeGame],
+    orders: &ManyOrders<'_>,
+    starts: &ManyStarts<'_>,
+    into: &mut [u8],
+    each: usize,
+) -> usize
+    ensures games { StartsEach (AdvancesLarge orders.now starts.now) games.old games.new result }
+    ensures planes { ShowsAdvanced IsLargeBoard starts.now games.new each into.old into.new }
+{
+    advance_large(games, orders, starts, into, each)
 }
 
 /// Lists the cells with food, the oldest first, as far as there is room. Returns their number.
 #[unsafe(no_mangle)]
-pub extern "C" fn arena_large_food(game: &LargeGame, into: &mut [Place]) -> usize {
+pub extern "C" fn arena_large_food(game: &LargeGame, into: &mut [Place]) -> usize
+    ensures { ListsFood game.now.head game.now.food into.new result }
+{
     food_large(game, into)
 }
 
 /// Lists the parts of a seat, its head first, as far as there is room. Returns their number.
 #[unsafe(no_mangle)]
-pub extern "C" fn arena_large_body(game: &LargeGame, seat: usize, into: &mut [Place]) -> usize {
+pub extern "C" fn arena_large_body(game: &LargeGame, seat: usize, into: &mut [Place]) -> usize
+    ensures { ListsBody game.now.head game.now.bodies seat into.new result }
+{
     body_large(game, seat, into)
 }
 
 /// Writes the record of the game's board, as far as there is room, and returns its length; 0 if the
 /// settings are not those of a game.
 #[unsafe(no_mangle)]
-pub extern "C" fn arena_large_save(game: &LargeGame, into: &mut [u8]) -> usize {
+pub extern "C" fn arena_large_save(game: &LargeGame, into: &mut [u8]) -> usize
+    ensures { SavesGameOf LARGE_SIDE game.now.head game.now.food game.now.bodies into.new result }
+{
     save_large(game, into)
 }
 
 /// Makes the game of a record, whose ids are not kept. If the board does not fit or has hazards,
 /// the game is over, with no living snake; after another fault it is as it was.
 #[unsafe(no_mangle)]
-pub extern "C" fn arena_large_load(alloc: Global, game: &mut LargeGame, bytes: &[u8]) -> u8 {
-    match decode(alloc, bytes) {
-        Ok(board) => match load_large(game, &board) {
-            Ok(()) => OK,
-            Err(misfit) => status_of_misfit(misfit),
-        },
-        Err(Decode::NotARecord) => NOT_A_RECORD,
-        Err(Decode::Memory) => OUT_OF_MEMORY,
+pub extern "C" fn arena_large_load(alloc: Global, game: &mut LargeGame, bytes: &[u8]) -> u8
+    ensures { IsLoadStatus (λ b. FitsSides LARGE_SIDE b × FitsGame 625 5032 b) bytes.now result (game.new ≡ game.old)
+        game.new.head game.new.food game.new.plane game.new.bodies }
+{
+    match read(alloc, bytes) {
+        Ok(board) => loaded(load_large(game, &board)),
+        Err(fault) => status_of(fault),
     }
 }

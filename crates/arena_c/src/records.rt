@@ -4,9 +4,9 @@ ghost use Rattle.std.specs.Prelude.{◌≡◌, ◌≢◌, if◌then◌else◌, l
 ghost use Rattle.arena_c.specs.Status.{IsStatus};
 ghost use Rattle.bs_board.specs.boards.Over.{is_over};
 ghost use Rattle.bs_board.specs.declared.boards.board.Board.{Board as AnyBoard};
-ghost use Rattle.bs_calls.specs.Records.{HasNoStart, HasNoTurn, IsRecordOf, IsStart, IsTurn, IsUnread};
+ghost use Rattle.bs_calls.specs.Records.{HasNoStart, HasNoTurn, IsRecordOf, IsStart, IsTurn, IsUnread, KeepsBehind};
 
-use crate::status::{OK, status_of};
+use crate::status::{answered, checked, told};
 use bs_calls::{SeatOrders, SeatSetup, is_legal, is_over, start, turn};
 use std::alloc::Global;
 
@@ -15,29 +15,22 @@ use std::alloc::Global;
 pub extern "C" fn arena_legal(alloc: Global, bytes: &[u8]) -> u8
     ensures { IsStatus result ((b : AnyBoard) × IsRecordOf bytes.now b) (IsUnread bytes.now) }
 {
-    match is_legal(alloc, bytes) {
-        Ok(()) => OK,
-        Err(fault) => status_of(fault),
-    }
+    checked(is_legal(alloc, bytes))
 }
 
-/// Writes 1 if the game of the record is over, else 0.
+/// Writes 1 if the game of the record is over, else 0. After a fault nothing is written.
 #[unsafe(no_mangle)]
 pub extern "C" fn arena_over(alloc: Global, bytes: &[u8], over: &mut u8) -> u8
-    ensures { IsStatus result
+    ensures status { IsStatus result
         ((b : AnyBoard) × IsRecordOf bytes.now b × (over.new ≡ if is_over b then 1 else 0))
         (IsUnread bytes.now) }
+    ensures fault { result ≢ 0 → over.new ≡ over.old }
 {
-    match is_over(alloc, bytes) {
-        Ok(answer) => {
-            *over = u8::from(answer);
-            OK
-        }
-        Err(fault) => status_of(fault),
-    }
+    told(is_over(alloc, bytes), over)
 }
 
-/// Writes the record of turn 0 and its length. After a fault nothing is written.
+/// Writes the record of turn 0 and its length. Nothing is written behind it, and nothing at all
+/// after a fault.
 #[unsafe(no_mangle)]
 pub extern "C" fn arena_start(
     alloc: Global,
@@ -46,18 +39,14 @@ pub extern "C" fn arena_start(
     count: &mut usize,
 ) -> u8
     ensures status { IsStatus result (IsStart setup.now into.new count.new) (HasNoStart setup.now (length into.old)) }
-    ensures fault { result ≢ 0 → into.new ≡ into.old }
+    ensures behind { result ≡ 0 → KeepsBehind count.new into.old into.new }
+    ensures fault { result ≢ 0 → (into.new ≡ into.old) × (count.new ≡ count.old) }
 {
-    match start(alloc, setup, into) {
-        Ok(first) => {
-            *count = first;
-            OK
-        }
-        Err(fault) => status_of(fault),
-    }
+    answered(start(alloc, setup, into), count)
 }
 
-/// Plays a turn: writes the record after it and its length. After a fault nothing is written.
+/// Plays a turn: writes the record after it and its length. Nothing is written behind it, and
+/// nothing at all after a fault.
 #[unsafe(no_mangle)]
 pub extern "C" fn arena_turn(
     alloc: Global,
@@ -67,13 +56,8 @@ pub extern "C" fn arena_turn(
     count: &mut usize,
 ) -> u8
     ensures status { IsStatus result (IsTurn bytes.now orders.now into.new count.new) (HasNoTurn bytes.now orders.now (length into.old)) }
-    ensures fault { result ≢ 0 → into.new ≡ into.old }
+    ensures behind { result ≡ 0 → KeepsBehind count.new into.old into.new }
+    ensures fault { result ≢ 0 → (into.new ≡ into.old) × (count.new ≡ count.old) }
 {
-    match turn(alloc, bytes, orders, into) {
-        Ok(written) => {
-            *count = written;
-            OK
-        }
-        Err(fault) => status_of(fault),
-    }
+    answered(turn(alloc, bytes, orders, into), count)
 }

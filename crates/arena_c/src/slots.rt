@@ -1,12 +1,18 @@
 //! Turns of many records.
 
-use crate::status::{OK, status_of};
-use bs_batch::{ManyOrders, orders_of, piece_mut};
+ghost use Rattle.std.specs.Prelude.{◌≡◌, ◌≤◌, ◌<◌, length, min};
+ghost use Rattle.arena_c.specs.Slots.{PlaysSlot, PlaysSlots, slot_bytes, turn_of_game};
+ghost use Rattle.bs_calls.specs.BySeat.{turn_by_seat};
+
+use crate::status::{OK, answered};
+use bs_batch::{ManyOrders, orders_of};
 use bs_calls::{SeatOrders, turn_in_place};
 use std::alloc::Global;
 
 /// The orders of one game, which give nothing of the map.
-fn seat_orders<'a>(orders: &ManyOrders<'a>, number: usize) -> SeatOrders<'a> {
+fn seat_orders<'a>(orders: &ManyOrders<'a>, number: usize) -> SeatOrders<'a>
+    ensures { turn_by_seat result ≡ turn_of_game orders.now number }
+{
     let own = orders_of(orders, number);
     SeatOrders {
         moves: own.moves,
@@ -16,6 +22,21 @@ fn seat_orders<'a>(orders: &ManyOrders<'a>, number: usize) -> SeatOrders<'a> {
         has_hazards: 0,
         has_food: 0,
     }
+}
+
+/// Plays a turn of the record in the first `count` bytes of a slot, by the orders of the game of
+/// that number. Returns the status.
+fn turn_slot(
+    alloc: Global,
+    slot: &mut [u8],
+    count: &mut usize,
+    orders: &ManyOrders<'_>,
+    number: usize,
+) -> u8
+    ensures { PlaysSlot (turn_of_game orders.now number) slot.old slot.new count.old count.new result }
+{
+    let own = seat_orders(orders, number);
+    answered(turn_in_place(alloc, slot, *count, &own), count)
 }
 
 /// Plays a turn of many records: each lies at the start of its slot, `lengths` has the length of
@@ -28,19 +49,19 @@ pub extern "C" fn arena_turns(
     lengths: &mut [usize],
     statuses: &mut [u8],
     orders: &ManyOrders<'_>,
-) -> usize {
+) -> usize
+    ensures { PlaysSlots orders.now (slot_bytes records.old lengths.old) (min (length lengths.old) (length statuses.old))
+        records.old records.new lengths.old lengths.new statuses.old statuses.new result }
+{
     let each = records.len() / lengths.len().max(1);
+    let slots = lengths.len().min(statuses.len());
     let mut played = 0usize;
-    for (number, (count, status)) in lengths.iter_mut().zip(statuses.iter_mut()).enumerate() {
-        let slot = piece_mut(records, number, each);
-        match turn_in_place(alloc, slot, *count, &seat_orders(orders, number)) {
-            Ok(written) => {
-                *count = written;
-                *status = OK;
-                played = played.wrapping_add(1);
-            }
-            Err(fault) => *status = status_of(fault),
-        }
+    for number in 0..slots {
+        let from = number * each;
+        let slot = &mut records[from..from + each];
+        let status = turn_slot(alloc, slot, &mut lengths[number], orders, number);
+        statuses[number] = status;
+        played = played.wrapping_add(usize::from(status == OK));
     }
     played
 }

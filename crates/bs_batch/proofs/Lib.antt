@@ -1,3 +1,4 @@
+pub mod Advanced
 pub mod Alone
 pub mod Bodies
 pub mod Bytes

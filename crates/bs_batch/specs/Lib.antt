@@ -1,3 +1,4 @@
+pub mod Advancing
 pub mod Counts
 pub mod Directions
 pub mod Eliminations

@@ -1,4 +1,5 @@
 -- What private contracts cite, and no public one.
+pub mod Advancing
 pub mod Collisions
 pub mod Crossing
 pub mod Eliminations

@@ -4,17 +4,19 @@ ghost use Rattle.std.specs.Prelude.{◌≡◌, ℕ, ◌<◌, length, slice_index
 ghost use Rattle.bs_batch.specs.declared.layout.LargeGame.{LargeGame as AnyGame};
 ghost use Rattle.bs_batch.specs.Games.{StepsLarge, words_of};
 ghost use Rattle.bs_board.specs.boards.Legal.{IsLegal};
+ghost use Rattle.bs_batch.specs.Advancing.{AdvancesLarge, ShowsAdvanced, act_of};
 ghost use Rattle.bs_batch.specs.Listing.{ListsBody, ListsFood};
 ghost use Rattle.bs_batch.specs.Loading.{FitsGame, FitsSides, IsLoaded};
 ghost use Rattle.bs_batch.specs.Saving.{SavesGameOf};
 ghost use Rattle.bs_batch.specs.Showing.{IsLargeBoard, ShowsEach};
 ghost use Rattle.bs_batch.specs.Starting.{StartsEach, StartsLarge, piece_of};
+ghost use Rattle.bs_batch.specs.inner.Advancing.{PieceAdvanced};
 ghost use Rattle.bs_batch.specs.inner.Showing.{PieceShown};
 
 use crate::layout::{LARGE_SIDE, LargeGame, Place, is_fit};
 use crate::lists::{list_body, list_food};
 use crate::loading::{Misfit, is_within, load, refuse};
-use crate::many::{ManyOrders, ManyStarts, cells_of, has_to_start, may_step, orders_of};
+use crate::many::{ManyOrders, ManyStarts, act_of, cells_of, has_to_start, may_step, orders_of};
 use crate::saving::save;
 use crate::showing::show;
 use crate::starting::{clear, start};
@@ -109,6 +111,63 @@ pub fn show_large(games: &[LargeGame], into: &mut [u8], each: usize)
     for number in 0..games.len() {
         show_game(&games[number], into, number, each);
     }
+}
+
+/// Plays a turn of the game of that number, or starts it, or leaves it, as its byte of `which` says.
+/// Returns whether it started.
+#[inline]
+fn act(game: &mut LargeGame, orders: &ManyOrders<'_>, first: &ManyStarts<'_>, number: usize) -> bool
+    ensures { AdvancesLarge orders.now first.now number game.old game.new result }
+{
+    let act = act_of(first, number);
+    if act == 0 {
+        step_one(game, orders_of(orders, number));
+        return false;
+    }
+    if act == 1 {
+        return start_game(game, first, number);
+    }
+    false
+}
+
+/// Writes the planes of a game that has played or was started.
+#[inline]
+fn show_changed(
+    game: &LargeGame,
+    first: &ManyStarts<'_>,
+    number: usize,
+    into: &mut [u8],
+    each: usize,
+)
+    ensures { PieceAdvanced (act_of first.now number) (IsLargeBoard game.now) number each into.old into.new }
+{
+    if act_of(first, number) > 1 {
+        return;
+    }
+    show_game(game, into, number, each);
+}
+
+/// One step of many environments, in one pass over the games. The byte of a game in `first.which`
+/// says what is done with it: 0 plays its turn, as `step_large` does, 1 starts it, as `start_large`
+/// does, and both write its planes, as `show_large` does; another byte leaves the game and its
+/// planes. Returns the number of the games that started.
+pub fn advance_large(
+    games: &mut [LargeGame],
+    orders: &ManyOrders<'_>,
+    first: &ManyStarts<'_>,
+    into: &mut [u8],
+    each: usize,
+) -> usize
+    ensures games { StartsEach (AdvancesLarge orders.now first.now) games.old games.new result }
+    ensures planes { ShowsAdvanced IsLargeBoard first.now games.new each into.old into.new }
+{
+    let mut started = 0usize;
+    for number in 0..games.len() {
+        let begins = act(&mut games[number], orders, first, number);
+        started = started.wrapping_add(usize::from(begins));
+        show_changed(&games[number], first, number, into, each);
+    }
+    started
 }
 
 /// Writes the record of the game's board, as far as there is room, and returns its length; 0 if the

@@ -95,6 +95,7 @@ pub struct Head {
 /// A game on a board of at most 11 by 11 cells. The body of seat i takes `bodies` from 125 i on,
 /// its head first.
 #[repr(C)]
+#[derive(Drop)]
 pub struct SmallGame {
     pub head: Head,
     pub food: [u16; 121],
@@ -106,6 +107,7 @@ pub struct SmallGame {
 /// A game on a board of at most 25 by 25 cells. The body of seat i takes `bodies` from 629 i on,
 /// its head first.
 #[repr(C)]
+#[derive(Drop)]
 pub struct LargeGame {
     pub head: Head,
     pub food: [u16; 625],

@@ -22,13 +22,15 @@ mod starting;
 mod turns;
 
 pub use large::{
-    body_large, food_large, load_large, save_large, show_large, start_large, step_large,
+    advance_large, body_large, food_large, load_large, save_large, show_large, start_large,
+    step_large,
 };
 pub use law::first_law;
 pub use layout::{Cell, Head, LargeGame, Place, Seat, Settings, SmallGame};
 pub use loading::Misfit;
-pub use many::{ManyOrders, ManyStarts, orders_of, piece_mut};
+pub use many::{ManyOrders, ManyStarts, orders_of};
 pub use small::{
-    body_small, food_small, load_small, save_small, show_small, start_small, step_small,
+    advance_small, body_small, food_small, load_small, save_small, show_small, start_small,
+    step_small,
 };
 pub use turns::Orders;

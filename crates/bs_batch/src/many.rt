@@ -1,6 +1,7 @@
 //! The lists of many games: game i has the i-th piece of each.
 
 ghost use Rattle.std.specs.Prelude.{◌≡◌, ◌↔◌, ◌≤◌, IsTrue};
+ghost use Rattle.bs_batch.specs.Advancing.{act_of};
 ghost use Rattle.bs_batch.specs.Starting.{food_of, has_to_start, piece_of, starts_of};
 ghost use Rattle.bs_batch.specs.Games.{MayStep, words_of};
 
@@ -31,7 +32,8 @@ pub struct ManyStarts<'a> {
     pub food: &'a [Cell],
     /// The number of cells of `food` for each game.
     pub food_each: usize,
-    /// A byte for each game: 0 leaves it as it is.
+    /// A byte for each game. `start_small` leaves a game of byte 0 as it is; what the bytes mean to
+    /// `advance_small` is said there.
     pub which: &'a [u8],
     pub settings: Settings,
 }
@@ -49,16 +51,6 @@ fn piece<T>(list: &[T], number: usize, each: usize) -> &[T]
         return &[];
     }
     &list[from..from + each]
-}
-
-/// The piece of that number, of pieces of `each` bytes; empty if the list is too short.
-#[inline]
-pub fn piece_mut(list: &mut [u8], number: usize, each: usize) -> &mut [u8] {
-    let from = number.saturating_mul(each);
-    match list.get_mut(from..from.saturating_add(each)) {
-        Some(piece) => piece,
-        None => &mut [],
-    }
 }
 
 /// The directions and words of the game of that number.
@@ -94,6 +86,18 @@ pub fn has_to_start(first: &ManyStarts<'_>, number: usize) -> bool
     match first.which.get(number) {
         Some(byte) => *byte != 0,
         None => false,
+    }
+}
+
+/// What is done with the game of that number: 0 for a turn, also if it has no byte, 1 for a start,
+/// another for nothing.
+#[inline]
+pub fn act_of(first: &ManyStarts<'_>, number: usize) -> u8
+    ensures { result ≡ act_of first.now number }
+{
+    match first.which.get(number) {
+        Some(byte) => *byte,
+        None => 0,
     }
 }
 

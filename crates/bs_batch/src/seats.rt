@@ -10,19 +10,6 @@ ghost use Rattle.bs_batch.specs.Shown.{room_of};
 
 use crate::layout::{ALIVE, Head, SEATS, SOLO};
 
-/// The room of a seat, with the parts that it does not have.
-#[inline]
-pub fn room_of(bodies: &mut [u16], seat: usize) -> &mut [u16]
-    requires seat { seat < SEATS }
-{
-    let row = bodies.len() / SEATS;
-    let start = seat * row;
-    match bodies.get_mut(start..start + row) {
-        Some(room) => room,
-        None => &mut [],
-    }
-}
-
 /// The parts of a seat, its head first.
 #[inline]
 pub fn body_of(bodies: &[u16], seat: usize, parts: u16) -> &[u16]

@@ -13,5 +13,6 @@ pub has_turn : (old : List ℕ) (orders : SeatOrders) (next : Board) → IsNext 
     → (r : Result ℕ Fault) (new : List ℕ) (room : ℕ)
     → MatchResult r (λ n. Begins new n next) (λ fault. (fault ≡ Room) × (room < length (record_of next)))
     → MatchResult r (IsTurn old orders new) (HasNoTurn old orders room)
-has_turn old orders next is (Ok n) new room begins = (is.0, is.1, begins ∙ ap record_of is.3)
+has_turn old orders next is (Ok n) new room begins =
+    (is.0, is.1, (begins.0 ∙ ap (λ (b : Board). length (record_of b)) is.3, begins.1 ∙ ap record_of is.3))
 has_turn old orders next is (Err fault) new room f = rw f.0 (is.0, is.1, rw (sym is.3) f.1)

@@ -1,13 +1,13 @@
 //! The calls on records.
 
-ghost use Rattle.std.specs.Prelude.{◌≡◌, ◌<◌, ◌≤◌, Some, MatchResult, OnErr, length, take};
+ghost use Rattle.std.specs.Prelude.{◌≡◌, ◌<◌, ◌≤◌, Some, MatchResult, IfOk, OnErr, length, take};
 ghost use Rattle.bs_board.specs.boards.Legal.{IsLegal};
 ghost use Rattle.bs_board.specs.boards.Over.{is_over};
 ghost use Rattle.bs_board.specs.declared.boards.board.Board.{Board as AnyBoard};
 ghost use Rattle.bs_board.specs.records.Record.{record_of};
 ghost use Rattle.bs_calls.specs.declared.fault.Fault.TheVariants.{Room};
 ghost use Rattle.bs_calls.specs.Setups.{setup_by_seat};
-ghost use Rattle.bs_calls.specs.Records.{Begins, HasNoStart, HasNoTurn, IsRecordOf, IsStart, IsTurn, IsUnread};
+ghost use Rattle.bs_calls.specs.Records.{Begins, HasNoStart, HasNoTurn, IsRecordOf, IsStart, IsTurn, IsUnread, KeepsBehind};
 ghost use Rattle.bs_calls.specs.inner.Records.{HasNoNext, HasNoSetup, IsFirst, IsNext};
 
 use crate::fault::Fault;
@@ -38,6 +38,7 @@ fn write(board: &Board, into: &mut [u8]) -> Result<usize, Fault>
     ensures answer { MatchResult result
         (λ n. Begins into.new n board.now)
         (λ fault. (fault ≡ Room) × (length into.old < length (record_of board.now))) }
+    ensures behind { IfOk result (λ n. KeepsBehind n into.old into.new) }
     ensures err { OnErr result (into.new ≡ into.old) }
 {
     let count = size(board);
@@ -83,9 +84,11 @@ fn first(alloc: Global, seats: &SeatSetup<'_>) -> Result<Board, Fault>
     Ok(board)
 }
 
-/// Writes the first record of a game, and returns its length. After an error nothing is written.
+/// Writes the first record of a game, and returns its length. Nothing is written behind it, and
+/// nothing at all after an error.
 pub fn start(alloc: Global, seats: &SeatSetup<'_>, into: &mut [u8]) -> Result<usize, Fault>
     ensures answer { MatchResult result (IsStart seats.now into.new) (HasNoStart seats.now (length into.old)) }
+    ensures behind { IfOk result (λ n. KeepsBehind n into.old into.new) }
     ensures err { OnErr result (into.new ≡ into.old) }
 {
     let board = first(alloc, seats)?;
@@ -104,8 +107,8 @@ fn next(alloc: Global, bytes: &[u8], orders: &SeatOrders<'_>) -> Result<Board, F
     Ok(next)
 }
 
-/// Plays a turn: reads a record, writes the record after the turn, and returns its length. After an
-/// error nothing is written.
+/// Plays a turn: reads a record, writes the record after the turn, and returns its length. Nothing
+/// is written behind it, and nothing at all after an error.
 pub fn turn(
     alloc: Global,
     bytes: &[u8],
@@ -113,6 +116,7 @@ pub fn turn(
     into: &mut [u8],
 ) -> Result<usize, Fault>
     ensures answer { MatchResult result (IsTurn bytes.now orders.now into.new) (HasNoTurn bytes.now orders.now (length into.old)) }
+    ensures behind { IfOk result (λ n. KeepsBehind n into.old into.new) }
     ensures err { OnErr result (into.new ≡ into.old) }
 {
     let next = next(alloc, bytes, orders)?;
@@ -120,7 +124,8 @@ pub fn turn(
 }
 
 /// Plays a turn of the record in the first `count` bytes of a slot: writes the record after the
-/// turn over it, and returns its length. After an error nothing is written.
+/// turn over it, and returns its length. Nothing is written behind it, and nothing at all after an
+/// error.
 pub fn turn_in_place(
     alloc: Global,
     slot: &mut [u8],
@@ -130,6 +135,7 @@ pub fn turn_in_place(
     ensures answer { MatchResult result
         (IsTurn (take count slot.old) orders.now slot.new)
         (HasNoTurn (take count slot.old) orders.now (length slot.old)) }
+    ensures behind { IfOk result (λ n. KeepsBehind n slot.old slot.new) }
     ensures err { OnErr result (slot.new ≡ slot.old) }
 {
     let next = next(alloc, front(slot, count), orders)?;

@@ -1,0 +1,4 @@
+pub mod Answered
+pub mod InSlots
+pub mod LoadedRecord
+pub mod SlotPlayed
