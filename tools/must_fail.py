@@ -1,5 +1,5 @@
-"""The crates whose must-fail edits `rt ci` is not given: for the first edit of a crate it proves all
-of the crate once more. tools/dear_edits tries them."""
+"""The crates whose must-fail edits `rt ci` is not given: for the first edit of a crate it proves
+all of the crate once more. tools/dear_edits tries them."""
 
 DEAR = (
     "bs_board",

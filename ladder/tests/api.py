@@ -1,4 +1,4 @@
-"""The objects of the official API, version 1, as strict models: exact types, no member more or less.
+"""The objects of the official API, version 1, as strict models: exact types and members.
 
 They are written from memory of its documentation (docs.battlesnake.com/api) and of the models of
 the official engine (package client of BattlesnakeOfficial/rules), which always sends all members.

@@ -1,4 +1,4 @@
-"""Tournaments: their matches for all numbers of bots, drawn matches, and tournaments that are played."""
+"""Tournaments: their matches for all numbers of bots, drawn matches, and whole tournaments."""
 
 from __future__ import annotations
 

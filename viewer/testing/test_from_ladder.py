@@ -1,4 +1,4 @@
-# A game that a ladder's page opens: it plays by itself, with what the bots answered, and leads back.
+# A game that a ladder's page opens: it plays by itself, shows what bots answered, and leads back.
 import json
 import os
 

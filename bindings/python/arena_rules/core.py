@@ -136,9 +136,9 @@ class Core:
 
     All that is drawn comes from one generator, in blocks: after it is set, LAYOUTS first boards.
     The words of the food of max(1, BLOCK // count) turns are drawn together, when they are first
-    needed: `integers(0, 2**32, (turns, count, words), uint32)`. So are the numbers of layouts of the
-    games that begin, in the order of the games: `integers(0, LAYOUTS, max(BLOCK, count))`; what is
-    left of a block that is too short is dropped.
+    needed: `integers(0, 2**32, (turns, count, words), uint32)`. So are the numbers of layouts of
+    the games that begin, in the order of the games: `integers(0, LAYOUTS, max(BLOCK, count))`; what
+    is left of a block that is too short is dropped.
     """
 
     def __init__(self, count: int, words: int, settings: dict[str, Any]) -> None:

@@ -142,7 +142,7 @@ def given_by(move: dict[str, Any]) -> dict[str, Any]:
 def fault_of_boards(
     lines: list[bytes], replies: list[bytes], config: Config, fixture: Fixture
 ) -> str | None:
-    """Why moves do not give what the map draws from the boards before them, as replies have them."""
+    """Why moves do not give what the map draws from the boards before them, as replies show."""
     hazards = config.rules.hazards
     if hazards is None or not hazards.needs_boards:
         return None

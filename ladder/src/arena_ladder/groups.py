@@ -113,7 +113,7 @@ class Search:
 
 
 def preferred(first: Row, others: Sequence[Row]) -> list[Row]:
-    """The others in the order in which a bot would meet them: first the lower half of its equals."""
+    """The others in the order in which a bot meets them: first the lower half of its equals."""
     equals = [row for row in others if row.points == first.points]
     half = (len(equals) + 1) // 2
     lower = equals[half - 1 :] if equals else []

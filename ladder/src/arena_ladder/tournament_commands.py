@@ -44,7 +44,7 @@ def seeded_bots(store: Store, most: int) -> list[Bot]:
 
 
 def tournament_config(given: argparse.Namespace) -> Config:
-    """A tournament of the best bots of a ladder, by its rules. One that has begun keeps its bots."""
+    """A tournament of a ladder's best bots, by its rules. One that has begun keeps its bots."""
     with closing(open_store(given.ladder)) as store:
         bots = seeded_bots(store, given.bots)
         urls = {bot.name: bot.url for bot in store.bots()}

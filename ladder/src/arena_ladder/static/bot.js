@@ -84,8 +84,9 @@ function wordsOfDeath(cause) {
 function numbersOf({ place, standing, moves }) {
   const { wins, draws, losses, missed } = standing;
   const causes = missed > 0 ? ` (${wordsOfCauses(standing)})` : '';
+  const mark = standing.mark && ` (${standing.mark})`;
   return [
-    standing.mark === 'removed' ? 'removed' : `place ${place}${standing.mark && ` (${standing.mark})`}`,
+    standing.mark === 'removed' ? 'removed' : `place ${place}${mark}`,
     `Elo ${standing.elo} ± ${standing.error}`,
     `${counted(standing.games, 'game')}: ${wins} won, ${draws} drawn, ${losses} lost`,
     `latency ${inMs(standing.median_ms)}, 99 % ${inMs(standing.p99_ms)}`,

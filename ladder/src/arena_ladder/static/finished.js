@@ -10,8 +10,9 @@ function wordsOfMissed({ missed }) {
 function finishedItem({ game, turns, seats }) {
   const bots = seats.map((seat) => made('span', { className: seat.result === 'win' ? 'won' : '' },
     botLabel(seat.bot), [wordsOfEnd(seat), wordsOfMissed(seat)].filter((it) => it).join('; ')));
-  const item = made('li', {}, gameLink(game), made('span', { className: 'turn' },
-    ` ${turns === 1 ? '1 turn' : `${turns.toLocaleString('en')} turns`}`), made('div', { className: 'bots' }, ...bots));
+  const length = turns === 1 ? '1 turn' : `${turns.toLocaleString('en')} turns`;
+  const item = made('li', {}, gameLink(game), made('span', { className: 'turn' }, ` ${length}`),
+    made('div', { className: 'bots' }, ...bots));
   item.dataset.game = game;
   return item;
 }
