@@ -80,10 +80,13 @@ def test_ladder_goes_on_behind_the_old_last_number(
 
 
 def test_folder_of_version_1_1_goes_on(program: Path, small_bots: Served, tmp_path: Path) -> None:
-    """Its standings are what they were, and all its games agree with the new ones."""
+    """Its standings are what they were, with a mark of each bot, and all its games agree with the
+    new ones."""
     folder = kept_folder("1.1", tmp_path / "x")
     old = json.loads((KEPT / "1.1.json").read_text())
-    assert list(rows_of(folder).values()) == old
+    rows: list[dict[str, Any]] = list(rows_of(folder).values())
+    assert [row.pop("mark") for row in rows] == ["new"] * len(old)
+    assert rows == old
     assert_agrees(folder, 12, program)
     config = config_for(tmp_path / "x.toml", folder, small_bots, pairing="rating")
     ran = run_ladder("play", config, "--rounds", "20", "--program", program)
