@@ -101,7 +101,8 @@ fn lines_are_read(rt: HostRuntime) -> Result<(), Fail> {
 
 #[test]
 fn white_space_between_tokens_is_dropped(rt: HostRuntime) -> Result<(), Fail> {
-    let line = "\t{\r\"game\"\t:\"a\"\r,\"do\":\t\"move\",\"moves\":{\"t\":\"up\",\t\"s\":\"left\"\t}}\r";
+    let line =
+        "\t{\r\"game\"\t:\"a\"\r,\"do\":\t\"move\",\"moves\":{\"t\":\"up\",\t\"s\":\"left\"\t}}\r";
     is_read(rt.alloc(), line, Version::Five, "a: move s Left t Up")?;
     let cut = "{\"game\": \"a\", \"do\": \"sh\tow\"}\r";
     is_read(rt.alloc(), cut, Version::Five, "stray Json")?;
