@@ -179,7 +179,7 @@ class TestPage:
     def test_each_has_its_output(self):
         assert library_page.has_all_outputs()
         counts = [len(library_page.blocks(it)) for it in ("c", "rust", "python")]
-        assert counts == [1, 1, 3]
+        assert counts == [1, 1, 4]
 
     def test_c(self, tmp_path):
         for number, (text, wanted) in enumerate(library_page.blocks("c")):

@@ -13,6 +13,7 @@ from typing import TYPE_CHECKING, Any
 
 from arena_rules.games import Games
 from arena_rules.library import ArenaError, library
+from arena_rules.royale import Royale
 
 if TYPE_CHECKING:
     from arena_rules.parallel import ParallelEnv
@@ -20,7 +21,8 @@ if TYPE_CHECKING:
     from arena_rules.vector import VectorEnv
 
 __version__ = "1.1.0"
-__all__ = ["ArenaError", "Games", "ParallelEnv", "SeatEnv", "VectorEnv", "__version__", "built"]
+__all__ = ["ArenaError", "Games", "ParallelEnv", "Royale", "SeatEnv", "VectorEnv"]
+__all__ += ["__version__", "built"]
 
 _LATER = {"VectorEnv": "vector", "SeatEnv": "seats", "ParallelEnv": "parallel"}
 

@@ -11,10 +11,9 @@ import numpy as np
 
 from arena_rules.buffers import NOTHING, Lent, number
 from arena_rules.games import Games
-from arena_rules.library import SEATS, ManyOrders, ManyStarts, library
+from arena_rules.library import LAST_TURN, SEATS, ManyOrders, ManyStarts, library
 from arena_rules.starts import check_seats, layouts
 
-LAST_TURN = 10_000
 MOST_WORDS = 32
 BLOCK = 4096
 FEW = 64  # games whose heads are read where they are
@@ -55,7 +54,8 @@ class Rooms:
 class OnePass:
     """A turn of all games, starts of some and all planes, over buffers that stay where they are.
 
-    It is one call of the library for each range of games, where the library has that call.
+    It is one call of the library for each range of games, where the library has that call; games
+    on a map are played by the calls on records.
     """
 
     def __init__(
@@ -67,7 +67,8 @@ class OnePass:
     ) -> None:
         self.games, self.lists = games, (moves, words, *firsts)
         self._lent = [lent(it) for it in self.lists]
-        self._call: Any = getattr(library, games._prefix + "advance", None)
+        call: Any = getattr(library, games._prefix + "advance", None)
+        self._call = call if games.map is None else None
         self._whole = self._range(0, games.count)
         self._ranges = {low: self._range(low, count) for low, count in games._ranges}
 
@@ -138,7 +139,8 @@ class Core:
     The words of the food of max(1, BLOCK // count) turns are drawn together, when they are first
     needed: `integers(0, 2**32, (turns, count, words), uint32)`. So are the numbers of layouts of
     the games that begin, in the order of the games: `integers(0, LAYOUTS, max(BLOCK, count))`; what
-    is left of a block that is too short is dropped.
+    is left of a block that is too short is dropped. For the map royale its seed is drawn before all
+    that: `integers(0, 2**63)`.
     """
 
     def __init__(self, count: int, words: int, settings: dict[str, Any]) -> None:
@@ -174,6 +176,8 @@ class Core:
         games = self.games
         self.rng, self._word_blocks = rng, iter(())
         self._numbers, self._next = np.zeros(0, "i8"), 0
+        if games._records is not None:
+            games._records.reseed(int(rng.integers(0, 1 << 63)))
         self._layouts = layouts(rng, games.width, games.height, games.seats, games.mode)
         starts, food = self._layouts
         self._starts = np.zeros((self.count, *starts.shape[1:]), "u1")
@@ -247,6 +251,11 @@ class Core:
         if np.count_nonzero(self.cut):
             self.cut &= ~self.over
 
+    def planes(self, scalars: bool = True) -> int:
+        """The number of planes of an observation: food and snakes; with `scalars` health and length
+        of each snake; on a map the hazards."""
+        return 1 + (3 if scalars else 1) * self.seats + (self.games.map is not None)
+
     def seat_view(self, name: str) -> np.ndarray:
         """A number of each seat, as it was looked at: a view (count, seats)."""
         return self._seats[name]
@@ -271,7 +280,12 @@ class Core:
         np.multiply(self._seats["health"], self.alive, out=both[:, :seats])
         length = np.minimum(self._seats["parts"], MOST_LENGTH)
         np.multiply(length, self.alive, out=both[:, seats:], casting="unsafe")
-        into[:, 1 + seats :] = both[:, :, None, None]
+        into[:, 1 + seats : 1 + 3 * seats] = both[:, :, None, None]
+
+    def show_hazards(self, into: np.ndarray) -> None:
+        """Writes the plane of the hazards, the last one, for games on a map."""
+        if self.games.map is not None:
+            into[:, -1] = self.games.hazards
 
     def infos(self) -> dict[str, np.ndarray]:
         """Who lives, and why who died, by game and seat; the turn of each game."""

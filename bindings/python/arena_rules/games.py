@@ -33,6 +33,7 @@ from arena_rules.library import (
     library,
     mode_number,
 )
+from arena_rules.royale import Records, Royale, map_of
 
 MOST_BYTES = 20_000  # more than the record of any game in memory has
 MOST_GAMES = 1 << 24
@@ -58,6 +59,10 @@ class Games:
     the interpreter's lock, and cuts the games into as many ranges as there are threads; `close`
     ends these.
 
+    With `map="royale"`, or a `Royale`, hazards close in, and the games are played by the calls on
+    records: slower, see docs/SIMULATOR.md. `hazards` has the hazards, and `memory` and `states`
+    show the boards without them; what is written there is not played.
+
     Of a board in memory, a byte of `plane` counts the parts of living snakes on its cell, and has
     128 more where food is. The bytes around the board mean nothing: whether a cell is on the board
     is asked first, as `free_steps` does.
@@ -73,6 +78,7 @@ class Games:
         mode: str = "standard",
         min_food: int = 1,
         food_chance: int = 15,
+        map: str | Royale = "standard",
         threads: int = 1,
     ) -> None:
         self.count = number("count", count, 0, MOST_GAMES)
@@ -91,11 +97,14 @@ class Games:
         self.memory: Any = (self._game * self.count)()
         self._prefix = f"arena_{'small' if small else 'large'}_"
         self._find_calls()
+        settings = map_of(map)
+        self._records = None if settings is None else Records(self, settings)
 
     def _find_calls(self) -> None:
         """What is not copied with the games: calls, views, threads."""
         self._step = getattr(library, self._prefix + "step")
         self._planes = getattr(library, self._prefix + "planes")
+        self._load = getattr(library, self._prefix + "load")
         self.states = _states(self.memory, self._game)
         threads = self.threads
         self._pool = ThreadPoolExecutor(threads) if threads > 1 else None
@@ -108,7 +117,8 @@ class Games:
 
     def __repr__(self) -> str:
         sides = f"width={self.width}, height={self.height}, seats={self.seats}"
-        return f"Games({self.count}, {sides}, mode={self.mode!r})"
+        on = "" if self.map is None else f", map={self.map}"
+        return f"Games({self.count}, {sides}, mode={self.mode!r}{on})"
 
     def __len__(self) -> int:
         return self.count
@@ -122,6 +132,7 @@ class Games:
             "_game": self._game,
             "settings": bytes(self.settings),
             "memory": bytes(self.memory),
+            "_records": None if self._records is None else self._records.kept(),
         }
 
     def __setstate__(self, state: dict[str, Any]) -> None:
@@ -129,6 +140,10 @@ class Games:
         self.settings = Settings.from_buffer_copy(state["settings"])
         self.memory = (self._game * self.count).from_buffer_copy(state["memory"])
         self._find_calls()
+        kept = state["_records"]
+        if kept is not None:
+            self._records = Records(self, kept["settings"])
+            self._records.restore(kept)
 
     def copy(self) -> "Games":
         """The same games in memory of their own."""
@@ -209,7 +224,10 @@ class Games:
             )
             return call(self._at(low), games, byref(first))
 
-        return sum(self._each(one))
+        started = sum(self._each(one))
+        if self._records is not None:
+            self._records.start(cells, fed, each, marks)
+        return started
 
     def _marks(self, which: Any) -> Lent:
         if which is None:
@@ -234,6 +252,9 @@ class Games:
 
     def _play(self, turns: Lent, drawn: Lent, each: int) -> None:
         """A turn by lists that were checked; `turns` and `drawn` keep them alive."""
+        if self._records is not None:
+            self._records.play(turns, drawn, each)
+            return
         if self._pool is None:
             orders = self._orders
             orders.moves, orders.moves_len = turns.at, turns.entries
@@ -275,6 +296,22 @@ class Games:
                 self._at(low), games, at + low * each, games * each, each
             )
         )
+
+    @property
+    def map(self) -> Royale | None:
+        """The settings of the map royale; None on the standard map."""
+        return None if self._records is None else self._records.settings
+
+    @property
+    def hazards(self) -> Any:
+        """1 on each cell with a hazard, (count, height, width), row by row from the bottom; a view
+        of what is there now. All 0 on the standard map."""
+        if self._records is None:
+            self._seats_of("cause")
+            return numpy.zeros((self.count, self.height, self.width), "u1")
+        view = self._records.hazards.view()
+        view.flags.writeable = False
+        return view
 
     def _seats_of(self, field: str) -> Any:
         if self.states is None:
@@ -348,9 +385,12 @@ class Games:
     def record(self, game: int) -> bytes:
         """The record of a game's board. Its snakes have the ids "0" to "7".
 
-        b"" for a game that was neither started nor loaded.
+        b"" for a game that was neither started nor loaded. On the map royale it has the hazards,
+        and the ids of the record that was loaded.
         """
         game = position("game", game, self.count)
+        if self._records is not None:
+            return self._records.record(game)
         into = ctypes.create_string_buffer(MOST_BYTES)
         call = getattr(library, self._prefix + "save")
         return ctypes.string_at(into, call(byref(self.memory[game]), into, MOST_BYTES))
@@ -358,22 +398,31 @@ class Games:
     def load(self, game: int, record: bytes) -> None:
         """Makes the game of a record, whose ids are not kept; after a fault it is as it was.
 
-        The board has to have the sides and as many snakes as these games have seats.
+        The board has to have the sides and as many snakes as these games have seats. On the map
+        royale its hazards have to be the cells outside of some columns and rows; the damage is that
+        of the record.
         """
         game = position("game", game, self.count)
         if not isinstance(record, bytes):
             if not isinstance(record, (bytearray, memoryview)):
                 raise TypeError(f"record is of the type {type(record).__name__}, and may be bytes")
             record = bytes(record)
+        if self._records is not None:
+            self.memory[game] = self._records.load(game, record)
+            return
         loaded = self._game()
-        check(getattr(library, self._prefix + "load")(byref(loaded), record, len(record)))
+        check(self._load(byref(loaded), record, len(record)))
+        self._check_sides(loaded)
+        self.memory[game] = loaded
+
+    def _check_sides(self, loaded: Any) -> None:
+        """Refuses a struct of other sides, or with another number of seats."""
         found = loaded.head.settings
         if (found.width, found.height, found.seats) != (self.width, self.height, self.seats):
             raise ValueError(
                 f"record has a board of {found.width} by {found.height} cells with {found.seats} "
                 f"snakes, and may have one of {self.width} by {self.height} with {self.seats}"
             )
-        self.memory[game] = loaded
 
     def food(self, game: int) -> list[tuple[int, int]]:
         """The cells with food, the oldest first."""

@@ -9,6 +9,7 @@ from pathlib import Path
 from typing import Any
 
 SEATS = 8
+LAST_TURN = 10_000
 MODES = {"standard": 0, "solo": 1, "constrictor": 2, "wrapped": 3}
 CAUSES = (
     None,

@@ -59,7 +59,7 @@ class ParallelEnv(ParallelBase):  # type: ignore[misc]
         self._view = SeatView(self.core)
         self.possible_agents = [f"snake_{seat}" for seat in range(self.core.seats)]
         self.agents: list[str] = []
-        sides = (self.core.seats, self.games.height, self.games.width)
+        sides = (self.core.planes(), self.games.height, self.games.width)
         self.observation_spaces = {agent: planes_space(*sides) for agent in self.possible_agents}
         self.action_spaces = {agent: Discrete(4) for agent in self.possible_agents}
         self.state_space = planes_space(*sides)
@@ -137,6 +137,7 @@ class ParallelEnv(ParallelBase):  # type: ignore[misc]
         planes = np.empty((1, *self.state_space.shape), "u1")
         self.core.show(planes)
         self.core.show_seats(planes)
+        self.core.show_hazards(planes)
         return planes[0]
 
     def render(self) -> Any:

@@ -11,6 +11,7 @@ if TYPE_CHECKING:
 
 CELL = 16  # pixels a side
 BACKGROUND, EMPTY, FOOD = (24, 24, 27), (46, 46, 51), (235, 64, 52)
+HAZARD = (96, 70, 40)
 COLORS = (
     (66, 133, 244),
     (251, 188, 5),
@@ -26,9 +27,10 @@ COLORS = (
 def ansi(games: Games, game: int) -> str:
     """A board as lines of text, the highest row first.
 
-    `*` is food, A to H the heads of living snakes by seat, a to h their other parts.
+    `*` is food, `x` a hazard with nothing on it, A to H the heads of living snakes by seat, a to h
+    their other parts.
     """
-    rows = [["."] * games.width for _ in range(games.height)]
+    rows = [["x" if it else "." for it in row] for row in games.hazards[game]]
     for x, y in games.food(game):
         rows[y][x] = "*"
     seats = games.memory[game].head.seats
@@ -42,7 +44,7 @@ def ansi(games: Games, game: int) -> str:
 def rgb(games: Games, game: int) -> np.ndarray:
     """A board as a picture (CELL * height, CELL * width, 3) of bytes, the highest row first."""
     cells = np.empty((games.height, games.width, 3), "u1")
-    cells[:] = EMPTY
+    cells[:] = np.where(games.hazards[game][:, :, None], HAZARD, EMPTY)
     for x, y in games.food(game):
         cells[y, x] = FOOD
     seats = games.memory[game].head.seats

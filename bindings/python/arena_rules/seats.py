@@ -22,7 +22,7 @@ class SeatView:
 
     (1 + 3 * seats, height, width): the food; the snakes as in `Games.planes`; then for each snake,
     in the same order, a plane of its health, and a plane of its length, at most 255. Both are 0 for
-    a snake that is out.
+    a snake that is out. On the map royale one more plane, the last, has 1 on each hazard.
     """
 
     def __init__(self, core: Any) -> None:
@@ -30,7 +30,7 @@ class SeatView:
         self.order = seat_order(core.seats)
         self.planes = np.zeros((core.count, 1 + core.seats, games.height, games.width), "u1")
         self._picks = [np.array([0, *(1 + order)]) for order in self.order]
-        self.shape = (core.count, core.seats, 1 + 3 * core.seats, games.height, games.width)
+        self.shape = (core.count, core.seats, core.planes(), games.height, games.width)
         self.rooms = Rooms(self.shape)
 
     def observed(self, into: np.ndarray | None = None) -> np.ndarray:
@@ -43,14 +43,15 @@ class SeatView:
             mine = out[:, seat]
             np.take(self.planes, self._picks[seat], 1, out=mine[:, : 1 + seats], mode="clip")
             mine[:, 1 + seats : 1 + 2 * seats] = health[:, order, None, None]
-            mine[:, 1 + 2 * seats :] = length[:, order, None, None]
+            mine[:, 1 + 2 * seats : 1 + 3 * seats] = length[:, order, None, None]
+            core.show_hazards(mine)
         return out
 
 
 class SeatEnv(Environments):
     """Each environment is a seat: num_envs = games * seats, the seats of a game side by side.
 
-    An observation is that of `SeatView`, (num_envs, 1 + 3 * seats, height, width); an action is a
+    An observation is that of `SeatView`, (num_envs, planes, height, width); an action is a
     direction, Discrete(4); rewards are (num_envs,): 1 for the last one alive, -1 for going out. A
     seat that is out has terminations True once. Then it waits until its game begins anew: its
     rewards are 0, its actions do nothing, and `infos["waiting"]` is True, so that a learner can
@@ -73,9 +74,8 @@ class SeatEnv(Environments):
         super().__init__(games, seed, words, render_mode, settings)
         core = self.core
         self.num_envs = core.count * core.seats
-        self.single_observation_space = planes_space(
-            core.seats, core.games.height, core.games.width
-        )
+        sides = (core.games.height, core.games.width)
+        self.single_observation_space = planes_space(core.planes(), *sides)
         self.single_action_space = Discrete(4)
         self.observation_space = batch_space(self.single_observation_space, self.num_envs)
         self.action_space = batch_space(self.single_action_space, self.num_envs)

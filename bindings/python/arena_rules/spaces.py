@@ -46,6 +46,6 @@ __all__ = [
 ]
 
 
-def planes_space(seats: int, height: int, width: int, scalars: bool = True) -> Any:
-    """Planes of the food and of each snake; with `scalars` also those of health and of length."""
-    return Box(0, 255, (1 + (3 if scalars else 1) * seats, height, width), "uint8")
+def planes_space(planes: int, height: int, width: int) -> Any:
+    """So many planes of bytes."""
+    return Box(0, 255, (planes, height, width), "uint8")

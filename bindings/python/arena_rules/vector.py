@@ -74,7 +74,8 @@ class VectorEnv(Environments):
     `scalars=False` there are no planes of health and length, and with `observe=False` none is
     written: all are zeros. Rewards are (num_envs, seats): 1 for the last one alive, -1 in the turn
     in which a snake goes out. A game that reaches turn 10,000 is truncated. Infos have `alive`,
-    `cause`, `killer` (255 for none) and `turn`, and for each the mask that gymnasium has.
+    `cause`, `killer` (255 for none) and `turn`, and for each the mask that gymnasium has. With
+    `map="royale"`, see `Royale`, one more plane, the last, has 1 on each hazard.
 
     Observations and infos stay as they are when the games go on. With `copy=False` that is NOT so:
     each call writes the observations of the last one anew.
@@ -95,7 +96,7 @@ class VectorEnv(Environments):
         super().__init__(num_envs, seed, words, render_mode, settings)
         self.num_envs, self._observe, self._scalars = self.core.count, observe, scalars
         sides = (self.games.height, self.games.width)
-        self.single_observation_space = planes_space(self.seats, *sides, scalars)
+        self.single_observation_space = planes_space(self.core.planes(scalars), *sides)
         self.single_action_space = MultiDiscrete([4] * self.seats)
         self.observation_space = batch_space(self.single_observation_space, self.num_envs)
         self.action_space = batch_space(self.single_action_space, self.num_envs)
@@ -113,6 +114,8 @@ class VectorEnv(Environments):
     def _observed(self, planes: np.ndarray) -> np.ndarray:
         if self._observe and self._scalars:
             self.core.show_seats(planes)
+        if self._observe:
+            self.core.show_hazards(planes)
         return planes
 
     def reset(
