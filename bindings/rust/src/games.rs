@@ -15,6 +15,14 @@ pub trait Game: Copy {
     fn raw_step(games: &mut [Self], orders: &RawOrders<'_>);
     #[doc(hidden)]
     fn raw_planes(games: &[Self], into: &mut [u8], each: usize);
+    #[doc(hidden)]
+    fn raw_advance(
+        games: &mut [Self],
+        orders: &RawOrders<'_>,
+        starts: &RawStarts<'_>,
+        into: &mut [u8],
+        each: usize,
+    ) -> usize;
     /// The cells with food, the oldest first.
     fn food(&self) -> Vec<Place>;
     /// The parts of a seat, its head first; none for no seat.
@@ -26,14 +34,14 @@ pub trait Game: Copy {
 }
 
 #[doc(hidden)]
-pub struct RawStarts<'a>(ManyStarts<'a>);
+pub struct RawStarts<'a>(pub(crate) ManyStarts<'a>);
 
 #[doc(hidden)]
-pub struct RawOrders<'a>(ManyOrders<'a>);
+pub struct RawOrders<'a>(pub(crate) ManyOrders<'a>);
 
 macro_rules! game {
-    ($game:ident, $start:ident, $step:ident, $planes:ident, $food:ident, $body:ident, $save:ident,
-     $load:ident) => {
+    ($game:ident, $start:ident, $step:ident, $planes:ident, $advance:ident, $food:ident,
+     $body:ident, $save:ident, $load:ident) => {
         // SAFETY of each call: what crosses is borrowed for the call as its type says, and a struct
         // that is written is borrowed alone. The calls require nothing of the contents.
         impl Game for $game {
@@ -57,6 +65,18 @@ macro_rules! game {
             fn raw_planes(games: &[$game], into: &mut [u8], each: usize) {
                 let (at, room) = (into.as_mut_ptr(), into.len());
                 unsafe { $planes(games.as_ptr(), games.len(), at, room, each) }
+            }
+
+            fn raw_advance(
+                games: &mut [$game],
+                orders: &RawOrders<'_>,
+                starts: &RawStarts<'_>,
+                into: &mut [u8],
+                each: usize,
+            ) -> usize {
+                let (at, room) = (into.as_mut_ptr(), into.len());
+                let (own, count) = (games.as_mut_ptr(), games.len());
+                unsafe { $advance(own, count, &orders.0, &starts.0, at, room, each) }
             }
 
             fn food(&self) -> Vec<Place> {
@@ -92,6 +112,7 @@ game!(
     arena_small_start,
     arena_small_step,
     arena_small_planes,
+    arena_small_advance,
     arena_small_food,
     arena_small_body,
     arena_small_save,
@@ -102,6 +123,7 @@ game!(
     arena_large_start,
     arena_large_step,
     arena_large_planes,
+    arena_large_advance,
     arena_large_food,
     arena_large_body,
     arena_large_save,
@@ -160,7 +182,7 @@ pub struct Starts<'a> {
 }
 
 /// Refuses a list whose length is not the one that fits.
-fn check(list: &'static str, is: usize, fits: usize) -> Result<(), Fault> {
+pub(crate) fn check(list: &'static str, is: usize, fits: usize) -> Result<(), Fault> {
     if is == fits {
         Ok(())
     } else {
@@ -169,7 +191,7 @@ fn check(list: &'static str, is: usize, fits: usize) -> Result<(), Fault> {
 }
 
 /// How many entries each game has of a list, which has as many for each.
-fn each_of(list: &'static str, is: usize, games: usize) -> Result<usize, Fault> {
+pub(crate) fn each_of(list: &'static str, is: usize, games: usize) -> Result<usize, Fault> {
     let count = games.max(1);
     if is % count == 0 {
         Ok(is / count)

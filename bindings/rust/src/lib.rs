@@ -1,7 +1,8 @@
 //! The rules of Battlesnake games, in this process. docs/SIMULATOR.md says what is proved of them.
 //!
 //! Calls on records ([`start`], [`turn`], [`is_over`], [`is_legal`]) take bytes and return bytes.
-//! [`Games`] holds many games as plain structs, and one call plays a turn in all of them.
+//! [`Games`] holds many games as plain structs, and one call plays a turn in all of them: [`step`],
+//! or [`advance`], which also starts some of them and writes their planes.
 //!
 //! ```
 //! use arena_rules::{is_over, start, turn, Cell, Direction, Map, Setup};
@@ -15,12 +16,14 @@
 //! ```
 #![warn(missing_docs)]
 
+mod advance;
 mod games;
 mod layout;
 mod raw;
 mod records;
 mod words;
 
+pub use advance::{advance, Act, Advance};
 pub use games::{planes, start as start_games, step, Game, Games, Starts};
 pub use layout::check_layout;
 pub use raw::{Cell, Head, LargeGame, Place, Seat, Settings, SmallGame};

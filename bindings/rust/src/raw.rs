@@ -194,8 +194,8 @@ pub(crate) struct SeatSetup<'a> {
 }
 
 macro_rules! game_calls {
-    ($game:ty, $start:ident, $step:ident, $planes:ident, $food:ident, $body:ident, $save:ident,
-     $load:ident) => {
+    ($game:ty, $start:ident, $step:ident, $planes:ident, $advance:ident, $food:ident, $body:ident,
+     $save:ident, $load:ident) => {
         extern "C" {
             pub(crate) fn $start(games: *mut $game, count: usize, starts: &ManyStarts<'_>)
                 -> usize;
@@ -207,6 +207,15 @@ macro_rules! game_calls {
                 room: usize,
                 each: usize,
             );
+            pub(crate) fn $advance(
+                games: *mut $game,
+                count: usize,
+                orders: &ManyOrders<'_>,
+                starts: &ManyStarts<'_>,
+                into: *mut u8,
+                room: usize,
+                each: usize,
+            ) -> usize;
             pub(crate) fn $food(game: &$game, into: *mut Place, room: usize) -> usize;
             pub(crate) fn $body(game: &$game, seat: usize, into: *mut Place, room: usize) -> usize;
             pub(crate) fn $save(game: &$game, into: *mut u8, room: usize) -> usize;
@@ -220,6 +229,7 @@ game_calls!(
     arena_small_start,
     arena_small_step,
     arena_small_planes,
+    arena_small_advance,
     arena_small_food,
     arena_small_body,
     arena_small_save,
@@ -230,6 +240,7 @@ game_calls!(
     arena_large_start,
     arena_large_step,
     arena_large_planes,
+    arena_large_advance,
     arena_large_food,
     arena_large_body,
     arena_large_save,

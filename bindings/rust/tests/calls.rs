@@ -88,6 +88,143 @@ fn planes_have_room() {
     assert_eq!(into.iter().map(|byte| u32::from(*byte)).sum::<u32>(), 12);
 }
 
+/// Drawn bytes: xorshift.
+fn drawn(state: &mut u64) -> u64 {
+    *state ^= *state << 13;
+    *state ^= *state >> 7;
+    *state ^= *state << 17;
+    *state >> 16
+}
+
+/// The acts, moves, words and first cells of one step of four games of two seats.
+struct Drawn {
+    acts: Vec<Act>,
+    moves: Vec<u8>,
+    words: Vec<u32>,
+    cells: Vec<Cell>,
+}
+
+fn draw(state: &mut u64, games: &[SmallGame]) -> Drawn {
+    let act_of = |game: &SmallGame, word: u64| match word % 8 {
+        _ if game.head.living == 0 || game.head.over != 0 => Act::Start,
+        0 => Act::Stay,
+        1 => Act::Start,
+        _ => Act::Turn,
+    };
+    Drawn {
+        acts: games.iter().map(|it| act_of(it, drawn(state))).collect(),
+        moves: (0..8).map(|_| (drawn(state) % 5) as u8).collect(),
+        words: (0..8).map(|_| drawn(state) as u32).collect(),
+        cells: (0..8)
+            .map(|at| Cell {
+                x: 1 + at % 2 * 8,
+                y: (drawn(state) % 12) as u8,
+            })
+            .collect(),
+    }
+}
+
+/// The same step by `step`, `start_games` and `planes`, game by game.
+fn advance_singly(games: &mut [SmallGame], by: &Drawn, into: &mut [u8]) -> usize {
+    let mut begun = 0;
+    for (at, piece) in into.chunks_mut(363).enumerate() {
+        let (game, two) = (&mut games[at..at + 1], 2 * at..2 * at + 2);
+        match by.acts[at] {
+            Act::Turn => step(game, &by.moves[two.clone()], &by.words[two]).unwrap(),
+            Act::Start => {
+                let first = Starts {
+                    cells: &by.cells[two],
+                    food: &[],
+                    which: None,
+                };
+                begun += start_games(game, settings(), &first).unwrap();
+            }
+            Act::Stay => continue,
+        }
+        planes(game, piece).unwrap();
+    }
+    begun
+}
+
+#[test]
+fn an_advance_is_turns_starts_and_planes() {
+    let (mut games, mut singly) = (Games::<SmallGame>::new(4), Games::<SmallGame>::new(4));
+    let (mut seen, mut wanted) = (vec![0; 4 * 363], vec![0; 4 * 363]);
+    let (mut state, mut begun, mut refused) = (88_172_645_463_325_252, 0, 0);
+    for _ in 0..400 {
+        let by = draw(&mut state, games.as_slice());
+        let one = Advance {
+            acts: &by.acts,
+            moves: &by.moves,
+            words: &by.words,
+            cells: &by.cells,
+            food: &[],
+        };
+        let count = advance(games.as_mut_slice(), settings(), &one, &mut seen).unwrap();
+        assert_eq!(
+            count,
+            advance_singly(singly.as_mut_slice(), &by, &mut wanted)
+        );
+        assert_eq!(seen, wanted);
+        for (game, other) in games.as_slice().iter().zip(singly.as_slice()) {
+            assert_eq!(game.record(), other.record());
+        }
+        let asked = by.acts.iter().filter(|it| **it == Act::Start).count();
+        begun += count;
+        refused += asked - count;
+    }
+    assert!(begun > 100 && refused > 10, "{begun} and {refused}");
+}
+
+#[test]
+fn an_advance_that_does_not_fit_is_refused() {
+    let mut games = started(2);
+    let games = games.as_mut_slice();
+    let all = Advance {
+        acts: &[Act::Turn; 2],
+        moves: &[3, 2, 3, 2],
+        words: &[],
+        cells: &STARTS.repeat(2),
+        food: &[],
+    };
+    let mut into = vec![0; 726];
+    let mut said = |one: &Advance<'_>, room: usize| {
+        let answer = advance(games, settings(), one, &mut into[..room]);
+        (answer, games[1].head.turn)
+    };
+    let refused = |list, is, fits| (length(list, is, fits), 0);
+    let acts = Advance {
+        acts: &all.acts[..1],
+        ..all
+    };
+    assert_eq!(said(&acts, 726), refused("acts", 1, 2));
+    let moves = Advance {
+        moves: &[0; 3],
+        ..all
+    };
+    assert_eq!(said(&moves, 726), refused("moves", 3, 4));
+    let cells = Advance {
+        cells: &STARTS,
+        ..all
+    };
+    assert_eq!(said(&cells, 726), refused("cells", 2, 4));
+    let words = Advance {
+        words: &[1; 3],
+        ..all
+    };
+    assert_eq!(said(&words, 726), refused("words", 3, 2));
+    let food = Advance {
+        food: &STARTS[..1],
+        ..all
+    };
+    assert_eq!(said(&food, 726), refused("food", 1, 2));
+    assert_eq!(said(&all, 725), refused("into", 725, 2));
+    assert_eq!(said(&all, 724), refused("into", 724, 726));
+    assert_eq!(said(&all, 0), (Ok(0), 1));
+    assert_eq!(said(&all, 726), (Ok(0), 2));
+    assert_eq!(into[121 + 5 * 11 + 3], 3);
+}
+
 #[test]
 fn a_record_keeps_no_more_than_its_bytes() {
     let setup = Setup {
