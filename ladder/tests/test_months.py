@@ -8,6 +8,7 @@ import sqlite3
 import time
 import zipfile
 from contextlib import closing
+from datetime import UTC, date, datetime
 from pathlib import Path
 from typing import Any
 
@@ -15,13 +16,17 @@ import pytest
 from served import Served, run_ladder, start_play, write_config
 
 from arena_ladder import packs
+from arena_ladder.about import about_of
 from arena_ladder.config import ENDLESS
+from arena_ladder.days import with_days
 from arena_ladder.endless import name_of, number_of
 from arena_ladder.game_files import command_file
+from arena_ladder.kept_answers import heard_in
 from arena_ladder.pairing import GAME_NAME
 from arena_ladder.page_calls import season_rows
 from arena_ladder.packs import commands_of, pack_games
 from arena_ladder.roster import change_roster
+from arena_ladder.seasons import season_day
 from arena_ladder.store import open_store
 
 KEPT = Path(__file__).resolve().parent / "kept"
@@ -185,6 +190,58 @@ def test_backup_is_whole_while_the_ladder_plays(
     assert ran.returncode == 0, ran.stderr
     assert_agrees(again, 40, program)
     assert "is there already" in run_ladder("backup", folder, again).stderr
+
+
+def kept_beside(folder: Path) -> dict[str, bytes]:
+    """What a folder keeps beside its games and its database, which a page and a log show."""
+    parts = [folder / "about.json", *(folder / "days").iterdir(), *(folder / "answers").iterdir()]
+    return {str(path.relative_to(folder)): path.read_bytes() for path in parts}
+
+
+def test_days_answers_and_name_come_back_and_seasons_keep_them(
+    program: Path, small_bots: Served, tmp_path: Path
+) -> None:
+    folder = tmp_path / "x"
+    members = {"pairing": "rating", "name": "Long", "enter": "Ask me"}
+    config = config_for(tmp_path / "x.toml", folder, small_bots, **members)
+    ran = run_ladder("play", config, "--rounds", "3", "--program", program)
+    assert ran.returncode == 0, ran.stderr
+    with_days(folder, [{"bot": "fleer", "elo": 1510, "games": 1}], date(2026, 11, 1))
+    (folder / "answers/r0009-t001.jsonl.unfinished").write_bytes(b"killed there")
+    before = kept_beside(folder)
+    del before["answers/r0009-t001.jsonl.unfinished"]
+    assert len(before) == 1 + 1 + 3
+    for source, to in (("x", "copy"), ("copy", "again")):
+        ran = run_ladder("backup" if to == "copy" else "restore", tmp_path / source, tmp_path / to)
+        assert (ran.returncode, kept_beside(tmp_path / to)) == (0, before), ran.stderr
+    again = tmp_path / "again"
+    assert run_ladder("season", again, "spring").returncode == 0
+    assert kept_beside(again) == before
+    with closing(open_store(again)) as store:
+        assert about_of(store, again)["name"] == "Long"
+    assert len(heard_in(again, "r0001-t001") or ()) > 2
+    assert (folder / "log").is_dir() and (again / "log").is_dir()
+
+
+def test_change_of_a_rating_is_not_counted_over_a_season(tmp_path: Path) -> None:
+    """Points and ratings begin anew, so the ratings of the days before mean nothing then."""
+    folder = kept_folder("1.1", tmp_path / "x")
+    with closing(open_store(folder)) as store:
+        assert season_day(store) == ""
+    first, second, third = (date(2026, 11, day) for day in (1, 2, 3))
+    rows = [{"bot": "fleer", "elo": 1700, "games": 30}]
+    with_days(folder, rows, first)
+    assert with_days(folder, rows, second)[0]["day"] == 0
+    assert run_ladder("season", folder, "spring").returncode == 0
+    with closing(open_store(folder)) as store:
+        assert season_day(store) == datetime.now(UTC).date().isoformat()
+        store.base.execute("DROP TABLE season")
+        assert season_day(store) == ""
+    rows = [{"bot": "fleer", "elo": 1520, "games": 3}]
+    assert with_days(folder, rows, second, begun=str(second))[0]["day"] is None
+    assert with_days(folder, rows, third, begun=str(second))[0]["day"] is None
+    rows = [{"bot": "fleer", "elo": 1540, "games": 5}]
+    assert with_days(folder, rows, date(2026, 11, 4), begun=str(second))[0]["day"] == 20
 
 
 def test_games_are_packed_by_thousands_and_read_alike(

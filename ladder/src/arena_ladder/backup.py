@@ -17,7 +17,7 @@ from arena_ladder.game_files import answers_file, command_file, make_folders
 from arena_ladder.packs import GAMES, commands_of, pack_file
 from arena_ladder.store import Store, StoreFault, open_store
 
-KEPT = ("seed", "answers", "log")  # what goes along, if it is there
+KEPT = ("seed", "about.json", "days", "answers", "log")  # what goes along, if it is there
 
 
 def backup(folder: Path, to: Path) -> int:
@@ -87,5 +87,6 @@ def copy_kept(source: Path, target: Path) -> None:
     elif source.is_dir():
         target.mkdir()
         for path in source.iterdir():
-            with suppress(FileNotFoundError):
-                shutil.copyfile(path, target / path.name)
+            if path.suffix != ".unfinished":
+                with suppress(FileNotFoundError):
+                    shutil.copyfile(path, target / path.name)

@@ -12,13 +12,16 @@ from typing import Any
 MOST_DAYS = 8  # that are kept
 
 
-def with_days(folder: Path, rows: list[dict[str, Any]], today: date) -> list[dict[str, Any]]:
+def with_days(
+    folder: Path, rows: list[dict[str, Any]], today: date, begun: str = ""
+) -> list[dict[str, Any]]:
     """The rows with `day`: the change since the last earlier day with ratings, None if unknown.
 
-    The first ratings of a day are kept. A folder that can't be written has no changes.
+    The first ratings of a day are kept. A folder that can't be written has no changes. Ratings of
+    the day `begun`, on which the season began, and of those before it are of another season.
     """
     kept = sorted((folder / "days").glob("????-??-??.json"))
-    earlier = [path for path in kept if path.stem < str(today)]
+    earlier = [path for path in kept if begun < path.stem < str(today)]
     before = ratings_in(earlier[-1]) if earlier else {}
     if str(today) not in {path.stem for path in kept}:
         with suppress(OSError):

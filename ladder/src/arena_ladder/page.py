@@ -29,6 +29,7 @@ from arena_ladder.feed import Feed, Results
 from arena_ladder.history import bots_of
 from arena_ladder.page_calls import KINDS, Calls, faults_as_answers, files_of_page, rows_of
 from arena_ladder.page_link import Address
+from arena_ladder.seasons import season_day
 from arena_ladder.seeds import seed_line_of
 from arena_ladder.store import open_store
 
@@ -182,7 +183,8 @@ async def send_events(request: web.Request, feed: Feed) -> web.StreamResponse:
 def results_of(folder: Path) -> Results:
     """Reads the results of a folder."""
     with closing(open_store(folder)) as store:
-        rows = with_days(folder, rows_of(store), datetime.now(UTC).date())
+        today, begun = datetime.now(UTC).date(), season_day(store)
+        rows = with_days(folder, rows_of(store), today, begun)
         about = about_of(store, folder)
         seed = seed_line_of(store)
         return {"standings": rows, "seed": seed, "bots": bots_of(store), "about": about}

@@ -7,6 +7,7 @@ alone; bots, games and their numbers go on.
 from __future__ import annotations
 
 import json
+import sqlite3
 from dataclasses import dataclass
 from pathlib import Path
 from typing import Any
@@ -17,6 +18,7 @@ from arena_ladder.store import Store, StoreFault
 from arena_ladder.texts import fit_text
 
 LONGEST_NAME = 64
+DAY = len("2026-11-29")
 
 
 @dataclass(frozen=True)
@@ -78,6 +80,20 @@ def seasons_of(store: Store) -> list[Season]:
         Season(number, name, first, last, at, json.loads(standings))
         for number, name, first, last, at, standings in rows
     ]
+
+
+def season_day(store: Store) -> str:
+    """The day on which the season that is played began; an empty text for the first one.
+
+    A folder of version 1.1 that can't be written has no seasons.
+    """
+    try:
+        (began,) = store.base.execute("SELECT IFNULL(MAX(ended_at), '') FROM season").fetchone()
+    except sqlite3.OperationalError as fault:
+        if "no such table" not in str(fault):
+            raise
+        return ""
+    return str(began)[:DAY]
 
 
 def season_of(store: Store, name: str) -> Season:
