@@ -10,9 +10,11 @@ import threading
 import time
 from collections.abc import Iterator
 from contextlib import contextmanager, suppress
+from pathlib import Path
 from typing import Any
 
 import pytest
+from served import run_ladder, write_config
 
 from arena_ladder import addresses
 from arena_ladder.bots import Answer, BotClient
@@ -99,7 +101,9 @@ class Handler(http.server.BaseHTTPRequestHandler):
 
     def do_POST(self) -> None:
         self.rfile.read(int(self.headers["Content-Length"]))
-        body = b'{"move":"up"}'
+        self.send(b'{"move":"up"}')
+
+    def send(self, body: bytes) -> None:
         self.send_response(200)
         self.send_header("Content-Length", str(len(body)))
         self.end_headers()
@@ -110,9 +114,11 @@ class Handler(http.server.BaseHTTPRequestHandler):
 
 
 @contextmanager
-def python_server(kind: type[http.server.HTTPServer]) -> Iterator[str]:
+def python_server(
+    kind: type[http.server.HTTPServer], handler: type[Handler] = Handler
+) -> Iterator[str]:
     """Serves bots within the context, whose value is the address of one."""
-    with kind(("127.0.0.1", 0), Handler) as server:
+    with kind(("127.0.0.1", 0), handler) as server:
         thread = threading.Thread(target=server.serve_forever, daemon=True)
         thread.start()
         yield f"http://127.0.0.1:{server.server_port}/bot"
@@ -155,6 +161,32 @@ def test_server_of_one_thread_is_recognised_and_misses_no_move() -> None:
     assert [it.cause for it in answers] == [None] * 200
     assert serial == [url]
     assert sum(it.latency > 500 for it in answers) <= 5
+
+
+class Walker(Handler):
+    """A bot that walks round a square."""
+
+    def do_GET(self) -> None:
+        self.send(b'{"apiversion":"1"}')
+
+    def do_POST(self) -> None:
+        state = json.loads(self.rfile.read(int(self.headers["Content-Length"])))
+        self.send(b'{"move":"%b"}' % (b"up", b"left", b"down", b"right")[state["turn"] % 4])
+
+
+def test_server_of_one_thread_is_named_while_it_plays(program: Path, tmp_path: Path) -> None:
+    """Once for each bot that it serves, with what to do; and they miss no move."""
+    rules = {"folder": str(tmp_path / "x"), "rounds": 2, "turns": 20, "timeout": 2000}
+    with python_server(http.server.HTTPServer, Walker) as url:
+        bots = [("one", url), ("other", url)]  # each turn asks it twice at the same time
+        config = write_config(tmp_path / "x.toml", bots, seed=1, **rules)
+        ran = run_ladder("play", config, "--program", program)
+    assert ran.returncode == 0, ran.stderr
+    named = [line for line in ran.stderr.splitlines() if "serves one connection at a time" in line]
+    assert [line.split()[1] for line in named] == ["one", "other"]
+    assert "games_a_bot = 1" in named[0]
+    rows = json.loads(run_ladder("standings", tmp_path / "x", "--json").stdout)
+    assert {row["bot"]: row["missed"] for row in rows} == {"one": 0, "other": 0}
 
 
 def test_server_that_was_slow_once_is_not_taken_for_one_of_one_thread() -> None:

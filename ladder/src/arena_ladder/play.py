@@ -196,6 +196,7 @@ class Run:
         """Begins each game as soon as there is room for it, and returns when all have ended."""
         while True:
             self.ended.clear()
+            self.name_serial_bots()
             while pace.may_begin(source.running) and (fixture := await source.begin()) is not None:
                 group.create_task(self.play_and_store(fixture, source))
             if source.running == 0:
@@ -203,7 +204,6 @@ class Run:
                     return
                 if self.context.config.is_endless:
                     self.say_once("waits for bots: too few are in and do not rest")
-            self.name_serial_bots()
             if pace.allowed < pace.most:
                 self.say_once("this machine is too busy: it plays fewer games at once")
             with suppress(TimeoutError):
