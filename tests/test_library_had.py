@@ -224,6 +224,7 @@ class TestPackages:
             proved, unproved = (package.control(name, "1.1.0", it) for it in (True, False))
             assert "PROVED" in proved and "UNPROVED" not in proved
             assert "UNPROVED: nothing of it was checked" in unproved
+            assert "exact" not in unproved
             assert not re.search(r"(?<!UN)PROVED", unproved) and "proved" not in unproved
 
     def test_an_unproved_program_claims_nothing(self):

@@ -6,7 +6,7 @@ use arena_rules::*;
 
 extern "C" {
     /// Microseconds of processor time, by the C library on Linux.
-    fn clock() -> std::ffi::c_long;
+    fn clock() -> std::os::raw::c_long;
 }
 
 /// Seconds of processor time.

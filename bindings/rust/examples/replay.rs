@@ -83,7 +83,8 @@ fn main() {
     let (games, mut turns) = (input.number(), 0);
     for _ in 0..games {
         let head = input.take(8);
-        let [mode, width, height, seats, min_food, chance, foods, words] = head.try_into().unwrap();
+        let head: [u8; 8] = head.try_into().unwrap();
+        let [mode, width, height, seats, min_food, chance, foods, words] = head;
         let mode =
             [Mode::Standard, Mode::Solo, Mode::Constrictor, Mode::Wrapped][usize::from(mode)];
         let settings = Settings {

@@ -15,6 +15,7 @@
 //! # Ok::<(), arena_rules::Fault>(())
 //! ```
 #![warn(missing_docs)]
+#![warn(unsafe_op_in_unsafe_fn)]
 
 mod advance;
 mod games;
@@ -44,7 +45,7 @@ pub fn built() -> &'static str {
 
 /// # Safety
 /// The pointer is to a constant text that ends in a zero.
-unsafe fn text(at: *const std::ffi::c_char) -> &'static str {
+unsafe fn text(at: *const std::os::raw::c_char) -> &'static str {
     // SAFETY: as the caller has it.
     let bytes = unsafe { std::ffi::CStr::from_ptr(at) };
     bytes.to_str().unwrap_or("")

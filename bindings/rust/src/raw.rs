@@ -1,8 +1,8 @@
 //! The structs and calls of arena.h. A list crosses as a pointer and a number of entries.
 
 use crate::words::{Cause, Mode};
-use std::ffi::c_char;
 use std::marker::PhantomData;
+use std::os::raw::c_char;
 
 /// A cell of a board; (0, 0) is the bottom left.
 #[repr(C)]
