@@ -1,4 +1,4 @@
-// A bot that walks round a square, on the JDK's own server: java Bot.java PORT
+// A bot that walks round a square, on the JDK's own server: java Bot.java PORT [chunked]
 import com.sun.net.httpserver.HttpServer;
 import java.net.InetSocketAddress;
 import java.nio.charset.StandardCharsets;
@@ -23,7 +23,7 @@ public class Bot {
             }
             var bytes = body.getBytes(StandardCharsets.UTF_8);
             exchange.getResponseHeaders().set("Content-Type", "application/json");
-            exchange.sendResponseHeaders(200, bytes.length);
+            exchange.sendResponseHeaders(200, words.length > 1 ? 0 : bytes.length);
             exchange.getResponseBody().write(bytes);
             exchange.close();
         });

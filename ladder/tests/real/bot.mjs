@@ -1,4 +1,4 @@
-// A bot that walks round a square, on Node's own server: bot.mjs PORT
+// A bot that walks round a square, on Node's own server: bot.mjs PORT HOST
 import { createServer } from 'node:http';
 
 const STEPS = ['up', 'left', 'down', 'right'];
@@ -14,4 +14,4 @@ createServer((request, response) => {
     response.writeHead(200, { 'Content-Type': 'application/json' });
     response.end(JSON.stringify(body)); // in chunks, since no length is given
   });
-}).listen(Number(process.argv[2]), '127.0.0.1');
+}).listen(Number(process.argv[2]), process.argv[3]);
