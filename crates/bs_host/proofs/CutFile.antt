@@ -1,5 +1,5 @@
 -- The cut of a file, from its first line and the other lines, one after the other.
-use Rattle.std.proofs.Common.{◌≡◌, ℕ, suc, ◌<◌, ◌≤◌, true, false, List, ◌∷◌, ◌++◌, Option, Some, None, Ok, is_some, length, refl, sym, ap, ◌∙◌, arith, append-nil, append_assoc}
+use Rattle.std.proofs.Common.{◌≡◌, ℕ, suc, ◌<◌, ◌≤◌, true, false, List, ◌∷◌, ◌++◌, Option, Some, None, Ok, is_some, length, if◌then◌else◌, refl, sym, ap, ◌∙◌, arith, append-nil, append_assoc}
 use Rattle.std.proofs.lemmas.Bool.{lt-ltb, le-ltb, cond-true, cond-false}
 use Rattle.std.proofs.lemmas.List.Concat.{flat_map-cons}
 use Rattle.std.specs.Borrow.{Bor}
@@ -11,12 +11,13 @@ use Rattle.bs_json.specs.Line.{line_of}
 use Rattle.bs_json.specs.PlanLine.{plan_line_of}
 use Rattle.bs_registry.specs.Stays.{Capacity}
 use Rattle.bs_workers.specs.Acts.{opened}
-use Rattle.bs_host.specs.declared.cut_fault.Cut.TheVariants.{TooLong}
+use Rattle.bs_host.specs.declared.cut_fault.Cut.TheVariants.{TooLong, Plan as OfPlan}
+use Rattle.bs_host.specs.declared.fault.PlanRefusal.TheVariants as refusal
 use Rattle.bs_host.specs.declared.limits.TheConstants.{MOST_FILE_BYTES}
 use Rattle.bs_host.specs.declared.lines.TheConstants.{LINE_FEED}
 use Rattle.bs_host.specs.declared.route.Route.{Route}
-use Rattle.bs_host.specs.Cut.{cut_of, cut_refusal_of, cut_refusal_of_plan, lone_plan_of, nth_from, nth_stay, own_lines_in, own_lines_of, row_at}
-use Rattle.bs_host.specs.inner.Cut.{behind_feeds}
+use Rattle.bs_host.specs.Cut.{cut_of, cut_refusal_of, cut_refusal_of_plan, is_too_small, lone_plan_of, nth_from, nth_stay, own_lines_in, own_lines_of, refusal_of_stay, row_at}
+use Rattle.bs_host.specs.inner.Cut.{behind_feeds, planned_cut, planned_refusal, planned_stay}
 use Rattle.bs_host.specs.File.{pieces_of, first_piece, later_pieces, plan_of, rows_in, version_in, version_of}
 use Rattle.bs_host.specs.inner.File.{pieces_after}
 use Rattle.bs_registry.specs.OpenStays.{OpenStayList, open_stays_of}
@@ -38,47 +39,48 @@ refusal_of_first blocks file game first n rest short pieces =
     cond-false _ (Some TooLong) (cut_refusal_of_plan blocks file game n (plan_of file)) (le-ltb MOST_FILE_BYTES (length file) short)
     ∙ ap (λ all. cut_refusal_of_plan blocks file game n (plan_line_of (first_piece all))) pieces
 
--- of a plan and the lines after it
+-- a file whose first line is that plan
+module _ (blocks : ℕ) (file first : List ℕ) (rest : List (List ℕ)) (plan : Plan) (pieces : pieces_of file ≡ first ∷ rest) (read : plan_line_of first ≡ Ok plan) where
+  stays_of_first : stays_of blocks file ≡ stays_behind (capacity_of blocks) plan.version plan.rows rest
+  stays_of_first =
+      ap (λ all. stays_behind (capacity_of blocks) (version_in (plan_line_of (first_piece all))) (rows_in (plan_line_of (first_piece all))) (later_pieces all)) pieces
+      ∙ ap (λ found. stays_behind (capacity_of blocks) (version_in found) (rows_in found) rest) read
 
-abbrev cut_from : ℕ → Plan → ℕ → List (List ℕ) → List ℕ
-cut_from blocks plan stay lines =
-    lone_plan_of plan.version (row_at (stays_behind (capacity_of blocks) plan.version plan.rows lines) stay)
-    ++ behind_feeds (own_lines_in (capacity_of blocks) plan.version (opened plan.rows) stay lines)
+  abbrev cut_from : ℕ → List ℕ
+  cut_from stay = planned_cut blocks plan rest (stay, row_at (stays_behind (capacity_of blocks) plan.version plan.rows rest) stay)
 
-pub stays_of_first : (blocks : ℕ) (file first : List ℕ) (rest : List (List ℕ)) (plan : Plan) → pieces_of file ≡ first ∷ rest → plan_line_of first ≡ Ok plan
-    → stays_of blocks file ≡ stays_behind (capacity_of blocks) plan.version plan.rows rest
-stays_of_first blocks file first rest plan pieces read =
-    ap (λ all. stays_behind (capacity_of blocks) (version_in (plan_line_of (first_piece all))) (rows_in (plan_line_of (first_piece all))) (later_pieces all)) pieces
-    ∙ ap (λ found. stays_behind (capacity_of blocks) (version_in found) (rows_in found) rest) read
+  cut_of_first : (stay : ℕ) → cut_of blocks file stay ≡ cut_from stay
+  unfolding cut_of
+  cut_of_first stay =
+      joined_behind (lone_plan_of (version_of file) (row_at (stays_of blocks file) stay)) (own_lines_of blocks file stay)
+      ∙ ap (λ stays. lone_plan_of (version_of file) (row_at stays stay) ++ behind_feeds (own_lines_of blocks file stay)) stays_of_first
+      ∙ ap (λ all.
+      lone_plan_of (version_in (plan_line_of (first_piece all))) (row_at (stays_behind (capacity_of blocks) plan.version plan.rows rest) stay)
+      ++ behind_feeds (own_lines_in (capacity_of blocks) (version_in (plan_line_of (first_piece all))) (opened (rows_in (plan_line_of (first_piece all)))) stay (later_pieces all))) pieces
+      ∙ ap (λ found.
+      lone_plan_of (version_in found) (row_at (stays_behind (capacity_of blocks) plan.version plan.rows rest) stay)
+      ++ behind_feeds (own_lines_in (capacity_of blocks) (version_in found) (opened (rows_in found)) stay rest)) read
 
-pub cut_of_first : (blocks : ℕ) (file first : List ℕ) (rest : List (List ℕ)) (plan : Plan) (stay : ℕ) → pieces_of file ≡ first ∷ rest → plan_line_of first ≡ Ok plan
-    → cut_of blocks file stay ≡ cut_from blocks plan stay rest
-unfolding cut_of
-cut_of_first blocks file first rest plan stay pieces read =
-    joined_behind (lone_plan_of (version_of file) (row_at (stays_of blocks file) stay)) (own_lines_of blocks file stay)
-    ∙ ap (λ stays. lone_plan_of (version_of file) (row_at stays stay) ++ behind_feeds (own_lines_of blocks file stay)) (stays_of_first blocks file first rest plan pieces read)
-    ∙ ap (λ all.
-    lone_plan_of (version_in (plan_line_of (first_piece all))) (row_at (stays_behind (capacity_of blocks) plan.version plan.rows rest) stay)
-    ++ behind_feeds (own_lines_in (capacity_of blocks) (version_in (plan_line_of (first_piece all))) (opened (rows_in (plan_line_of (first_piece all)))) stay (later_pieces all))) pieces
-    ∙ ap (λ found.
-    lone_plan_of (version_in found) (row_at (stays_behind (capacity_of blocks) plan.version plan.rows rest) stay)
-    ++ behind_feeds (own_lines_in (capacity_of blocks) (version_in found) (opened (rows_in found)) stay rest)) read
+  pub refusal_of_planned : (game : List ℕ) (n : ℕ) → length file ≤ MOST_FILE_BYTES → cut_refusal_of blocks file game n ≡ planned_refusal blocks plan rest game n
+  refusal_of_planned game n short =
+      refusal_of_first blocks file game first n rest short pieces ∙ ap (cut_refusal_of_plan blocks file game n) read
+      ∙ ap (λ rows.
+      if is_too_small blocks plan then Some (OfPlan refusal.Short) else refusal_of_stay (option_map (λ (f : ℕ × GameRow). f.0) (nth_from 0 rows game n))) stays_of_first
 
--- the text made for the stay that was found is the file's cut
-pub cut_of_found : (blocks : ℕ) (file first game name text : List ℕ) (n : ℕ) (rest : List (List ℕ)) (plan : Plan) (found : ℕ × GameRow) → pieces_of file ≡ first ∷ rest
-    → plan_line_of first ≡ Ok plan → name ≡ game → Some found ≡ nth_from 0 (stays_behind (capacity_of blocks) plan.version plan.rows rest) name n
-    → text ≡ lone_plan_of plan.version found.1 ++ behind_feeds (own_lines_in (capacity_of blocks) plan.version (opened plan.rows) found.0 rest)
-    → option_map (cut_of blocks file) (nth_stay blocks file game n) ≡ Some text
-cut_of_found blocks file first game name text n rest plan found pieces read is looked written =
-    let stays = stays_behind (capacity_of blocks) plan.version plan.rows rest in
-    let all = stays_of_first blocks file first rest plan pieces read in
-    let nth : nth_from 0 (stays_of blocks file) game n ≡ Some found =
-    ap (λ rows. nth_from 0 rows game n) all ∙ ap (λ g. nth_from 0 stays g n) (sym is) ∙ sym looked in
-    let its_row = found_row stays name n found (sym looked) in
-    let same : text ≡ cut_from blocks plan found.0 rest =
-    written ∙ ap (λ r. lone_plan_of plan.version r ++ behind_feeds (own_lines_in (capacity_of blocks) plan.version (opened plan.rows) found.0 rest)) its_row in
-    ap (λ o. option_map (cut_of blocks file) (option_map (λ (f : ℕ × GameRow). f.0) o)) nth
-    ∙ ap Some (cut_of_first blocks file first rest plan found.0 pieces read ∙ sym same)
+  text_of : (found : Option (ℕ × GameRow)) (game text : List ℕ) (n : ℕ) → planned_stay blocks plan rest game n ≡ found
+      → option_map (planned_cut blocks plan rest) found ≡ Some text
+      → option_map (cut_of blocks file) (option_map (λ (f : ℕ × GameRow). f.0) found) ≡ Some text
+  text_of None game text n looked made = absurd cc
+  text_of (Some found) game text n looked made =
+      let its_row = found_row (stays_behind (capacity_of blocks) plan.version plan.rows rest) game n found looked in
+      ap Some (cut_of_first found.0 ∙ ap (λ row. planned_cut blocks plan rest (found.0, row)) (sym its_row)) ∙ made
+
+  -- the text made for the stay is the file's cut
+  pub cut_of_planned : (game text : List ℕ) (n : ℕ) → option_map (planned_cut blocks plan rest) (planned_stay blocks plan rest game n) ≡ Some text
+      → option_map (cut_of blocks file) (nth_stay blocks file game n) ≡ Some text
+  cut_of_planned game text n made =
+      ap (λ rows. option_map (cut_of blocks file) (option_map (λ (f : ℕ × GameRow). f.0) (nth_from 0 rows game n))) stays_of_first
+      ∙ text_of (planned_stay blocks plan rest game n) game text n refl made
 
 -- the bytes and line feeds that remain of the file
 abbrev pub bytes_left : Option (Bor (List ℕ)) → ℕ

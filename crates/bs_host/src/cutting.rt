@@ -8,7 +8,7 @@ ghost use Rattle.bs_board.specs.Texts.{is_same_text};
 ghost use Rattle.bs_json.specs.Line.{line_of};
 ghost use Rattle.bs_workers.specs.Acts.{opened};
 ghost use Rattle.bs_host.specs.Cut.{row_data, lone_plan_data, lone_plan_of, is_too_small, nth_from, nth_stay, own_lines_in, cut_of, cut_refusal_of, IsCutRefusal, SectionLaw};
-ghost use Rattle.bs_host.specs.inner.Cut.{behind_feeds};
+ghost use Rattle.bs_host.specs.inner.Cut.{behind_feeds, planned_cut, planned_refusal, planned_stay};
 ghost use Rattle.bs_host.specs.inner.File.{pieces_after};
 ghost use Rattle.bs_registry.specs.OpenStays.{open_stays_of};
 ghost use Rattle.bs_registry.specs.Registry.{seen};
@@ -231,11 +231,36 @@ fn is_too_small(plan: &Plan, blocks: usize) -> bool
     plan.version.has_stays() && blocks_of_all(BLOCK_BYTES, plan.rows.as_slice()) > blocks
 }
 
+/// Cuts a file whose plan was parsed. Checks the number of blocks, then the stay.
+#[tactic(auto, using(crate::proofs::CutRefusals::none_against, crate::proofs::CutRefusals::too_small, crate::proofs::CutRefusals::not_there, crate::proofs::CutRefusals::cut_of_found))]
+fn cut_planned(
+    alloc: Global,
+    file: CommandFile<'_>,
+    game: &str,
+    stay: usize,
+) -> Result<Vec<u8>, Cut>
+    ensures cut { OnOk result
+        (planned_refusal file.entry.blocks file.entry.plan.now (pieces_after (option_copied file.entry.rest)) game.now stay ≡ None) }
+    ensures text { IfOk result (λ text.
+        option_map (planned_cut file.entry.blocks file.entry.plan.now (pieces_after (option_copied file.entry.rest))) (planned_stay file.entry.blocks file.entry.plan.now (pieces_after (option_copied file.entry.rest)) game.now stay) ≡ Some text.items) }
+    ensures fault { IfErr result
+        (IsCutRefusal (planned_refusal file.entry.blocks file.entry.plan.now (pieces_after (option_copied file.entry.rest)) game.now stay)) }
+{
+    if is_too_small(file.plan, file.blocks) {
+        return Err(Cut::Plan(PlanRefusal::Short));
+    }
+    let name = Id::from_str(alloc, game)?;
+    match find_stay(alloc, file, &name, stay)? {
+        Some((stay, row)) => Ok(cut_to(alloc, file, stay, &row)?),
+        None => Err(Cut::NoSuchGame),
+    }
+}
+
 /// Makes the file of one stay alone: a plan of the same version with its row alone, then its own
 /// lines, unchanged, each after a line feed. `stay` counts from 1 among the stays of that name, of
-/// the file as it is served with `blocks` blocks. Checks the file's length, its plan, in version 3
-/// the number of blocks, and the stay, in this order, and returns the first fault.
-#[tactic(auto, using(crate::proofs::CutFile::refusal_of_long, crate::proofs::CutFile::refusal_of_first, crate::proofs::CutRefusals::none_against, crate::proofs::CutRefusals::too_small, crate::proofs::CutRefusals::not_there))]
+/// the file as it is served with `blocks` blocks. Checks the file's length, its plan, in versions 3
+/// and 5 the number of blocks, and the stay, in this order, and returns the first fault.
+#[tactic(auto, using(crate::proofs::CutFile::refusal_of_long, crate::proofs::CutFile::refusal_of_first, crate::proofs::CutFile::refusal_of_planned, crate::proofs::CutFile::cut_of_planned))]
 pub fn cut(
     alloc: Global,
     input: &[u8],
@@ -253,19 +278,12 @@ pub fn cut(
     }
     let (first, rest) = split_line(input);
     let plan = read_plan(alloc, first)?;
-    if is_too_small(&plan, blocks) {
-        return Err(Cut::Plan(PlanRefusal::Short));
-    }
-    let name = Id::from_str(alloc, game)?;
     let file = CommandFile {
         blocks,
         plan: &plan,
         rest,
     };
-    match find_stay(alloc, file, &name, stay)? {
-        Some((stay, row)) => Ok(cut_to(alloc, file, stay, &row)?),
-        None => Err(Cut::NoSuchGame),
-    }
+    cut_planned(alloc, file, game, stay)
 }
 
 /// States that each stay of each file is answered by its own lines alone as it is in the file; that
