@@ -40,6 +40,15 @@ function numberCell(value) {
   return made('td', { className: 'number' }, value === null ? '–' : value.toLocaleString('en'));
 }
 
+/** Scrolls the list of games, and nothing around it, as far as its row needs to be seen. */
+function scrollToRow(line) {
+  const list = line.closest('.games');
+  const seen = list.getBoundingClientRect();
+  const top = seen.top + line.closest('table').tHead.offsetHeight;
+  const { top: rowTop, bottom } = line.getBoundingClientRect();
+  list.scrollTop += rowTop < top ? rowTop - top : Math.max(0, bottom - seen.bottom);
+}
+
 class GamesTable {
   constructor(table, onChoose) {
     this.table = table;
@@ -98,6 +107,7 @@ class GamesTable {
     for (const line of this.table.tBodies[0].rows) {
       if (line.dataset.game === game?.name && Number(line.dataset.stay) === game.stay) {
         line.setAttribute('aria-current', 'true');
+        scrollToRow(line);
       } else {
         line.removeAttribute('aria-current');
       }

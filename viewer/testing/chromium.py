@@ -162,6 +162,24 @@ class Browser:
                 },
             )
 
+    def resize(self, width, height):
+        """Gives the page itself, without the window around it, that size."""
+        self.call(
+            "POST",
+            "/goog/cdp/execute",
+            {
+                "cmd": "Emulation.setDeviceMetricsOverride",
+                "params": {"width": width, "height": height, "deviceScaleFactor": 1, "mobile": False},
+            },
+        )
+
+    def restore_size(self):
+        self.call(
+            "POST",
+            "/goog/cdp/execute",
+            {"cmd": "Emulation.clearDeviceMetricsOverride", "params": {}},
+        )
+
     def picture(self, selector):
         """The bytes of a PNG of an element."""
         return base64.b64decode(self.call("GET", f"/element/{self.element(selector)}/screenshot"))

@@ -2,7 +2,7 @@
 import re
 
 import pytest
-from testing.made import text
+from testing.made import text, write_large
 from testing.page import CASES, TOURNAMENT
 from testing.reading import read
 
@@ -124,3 +124,38 @@ def test_a_long_list_is_shown_in_parts(page, browser, make_file):
         if shown < 500:
             browser.click("#strays .more")
     assert "line 501 of" in page.texts("#strays li")[-1]
+
+
+# Whether the controls are on the page as it is seen, and the chosen row in the list below its head.
+IN_SIGHT = """
+const { top, bottom } = document.getElementById('controls').getBoundingClientRect();
+const list = document.querySelector('.games').getBoundingClientRect();
+const head = document.querySelector('#games thead').getBoundingClientRect();
+const row = document.querySelector('#games [aria-current]').getBoundingClientRect();
+return {
+  controls: top >= 0 && bottom <= innerHeight,
+  row: row.top >= head.bottom - 1 && row.bottom <= list.bottom + 1,
+};
+"""
+
+
+@pytest.mark.parametrize("width", (1400, 1300))
+def test_with_many_games_the_controls_and_the_chosen_row_are_in_sight(
+    page, browser, tmp_path, width
+):
+    path = tmp_path / "many.transcript"
+    write_large(path, TOURNAMENT.read_text().splitlines(), "eight", 28, 1)
+    browser.resize(width, 800)
+    try:
+        page.open_empty()
+        page.choose(path)
+        assert len(page.games()) == 28
+        for key, row in [("n", it) for it in range(1, 28)] + [("p", it) for it in range(26, -1, -1)]:
+            browser.press(key)
+            browser.wait(
+                "return document.querySelectorAll('#games tbody tr')[arguments[0]].ariaCurrent",
+                row,
+            )
+            assert browser.run(IN_SIGHT) == {"controls": True, "row": True}, (key, row)
+    finally:
+        browser.restore_size()
