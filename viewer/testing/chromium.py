@@ -169,7 +169,12 @@ class Browser:
             "/goog/cdp/execute",
             {
                 "cmd": "Emulation.setDeviceMetricsOverride",
-                "params": {"width": width, "height": height, "deviceScaleFactor": 1, "mobile": False},
+                "params": {
+                    "width": width,
+                    "height": height,
+                    "deviceScaleFactor": 1,
+                    "mobile": False,
+                },
             },
         )
 
