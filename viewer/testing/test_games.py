@@ -150,9 +150,8 @@ def test_with_many_games_the_controls_and_the_chosen_row_are_in_sight(
         page.open_empty()
         page.choose(path)
         assert len(page.games()) == 28
-        for key, row in [("n", it) for it in range(1, 28)] + [
-            ("p", it) for it in range(26, -1, -1)
-        ]:
+        down, up = [("n", row) for row in range(1, 28)], [("p", row) for row in range(26, -1, -1)]
+        for key, row in down + up:
             browser.press(key)
             browser.wait(
                 "return document.querySelectorAll('#games tbody tr')[arguments[0]].ariaCurrent", row
