@@ -23,6 +23,7 @@ SIMULATORS = ROOT / "benches/simulators"
 BUILT = ROOT / "out/bindings/BUILT"
 SPOTS = [(1, 1), (1, 9), (9, 1), (9, 9), (1, 5), (5, 1), (5, 9), (9, 5)]
 MOST_TURNS = 400
+ROYALE = {"map": "royale"}
 
 
 def drawn_game(number):
@@ -172,9 +173,12 @@ def time_python(games, runs):
 
 def time_environments(runs):
     """What a step of the environments takes, for each of their games."""
-    for kind in ("VectorEnv", "SeatEnv"):
+    few = {"scalars": False}
+    kinds = (("VectorEnv", {}), ("VectorEnv", few), ("SeatEnv", {}), ("VectorEnv", ROYALE))
+    for kind, more in kinds:
         for count in (1, 64, 1024, 4096):
-            say(f"{kind} of {count:,} games", time_env(kind, count, runs))
+            each = time_env(kind, count, runs, **more)
+            say(" ".join((kind, str(count), *(f"{it}={more[it]}" for it in more))), each)
     say("VectorEnv of 1,024, no planes", time_env("VectorEnv", 1024, runs, observe=False))
     say("VectorEnv of 16,384, 4 threads", time_env("VectorEnv", 16384, runs, 4))
 

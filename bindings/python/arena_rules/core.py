@@ -273,14 +273,20 @@ class Core:
         the first 1 + seats are written."""
         self.games._show(into.__array_interface__["data"][0], into.size // self.count)
 
-    def show_seats(self, into: np.ndarray) -> None:
-        """Writes planes of health and of length, at most 255, behind those of the snakes; both are
-        0 for a snake that is out."""
+    def health_and_length(self) -> np.ndarray:
+        """The health of all seats, then their lengths, at most 255: (count, 2 * seats); both are 0
+        for a snake that is out. The next call writes the same memory."""
         seats, both = self.seats, self._health_and_length
         np.multiply(self._seats["health"], self.alive, out=both[:, :seats])
         length = np.minimum(self._seats["parts"], MOST_LENGTH)
         np.multiply(length, self.alive, out=both[:, seats:], casting="unsafe")
-        into[:, 1 + seats : 1 + 3 * seats] = both[:, :, None, None]
+        return both
+
+    def show_seats(self, into: np.ndarray) -> None:
+        """Writes planes of health and of length behind those of the snakes."""
+        seats, both = self.seats, self.health_and_length()
+        cells = into.reshape(self.count, into.shape[1], -1)  # a plane is one run of bytes
+        cells[:, 1 + seats : 1 + 3 * seats] = both[:, :, None]
 
     def show_hazards(self, into: np.ndarray) -> None:
         """Writes the plane of the hazards, the last one, for games on a map."""

@@ -17,6 +17,15 @@ def seat_order(seats: int) -> np.ndarray:
     return np.array([[own, *(it for it in range(seats) if it != own)] for own in range(seats)])
 
 
+def copy_own_first(from_: np.ndarray, own: int, into: np.ndarray, run: int) -> None:
+    """Copies what each seat has, `run` bytes side by side, for all games, in the order of a seat:
+    three runs, which is faster than one plane after the other."""
+    behind = (own + 1) * run
+    into[:, :run] = from_[:, own * run : behind]
+    into[:, run:behind] = from_[:, : own * run]
+    into[:, behind:] = from_[:, behind:]
+
+
 class SeatView:
     """What each seat sees of its game: planes with the own snake first.
 
@@ -27,9 +36,8 @@ class SeatView:
 
     def __init__(self, core: Any) -> None:
         self.core, games = core, core.games
-        self.order = seat_order(core.seats)
         self.planes = np.zeros((core.count, 1 + core.seats, games.height, games.width), "u1")
-        self._picks = [np.array([0, *(1 + order)]) for order in self.order]
+        self._order = seat_order(core.seats)
         self.shape = (core.count, core.seats, core.planes(), games.height, games.width)
         self.rooms = Rooms(self.shape)
 
@@ -37,15 +45,22 @@ class SeatView:
         """The observations of all seats of all games, in the shape `shape`, from `planes`."""
         core, seats = self.core, self.core.seats
         out = self.rooms.take() if into is None else into
-        health = core.seat_view("health") * core.alive
-        length = np.minimum(core.seat_view("parts"), 255).astype("u1") * core.alive
-        for seat, order in enumerate(self.order):
-            mine = out[:, seat]
-            np.take(self.planes, self._picks[seat], 1, out=mine[:, : 1 + seats], mode="clip")
-            mine[:, 1 + seats : 1 + 2 * seats] = health[:, order, None, None]
-            mine[:, 1 + 2 * seats : 1 + 3 * seats] = length[:, order, None, None]
-            core.show_hazards(mine)
+        planes = self.planes.reshape(core.count, -1)
+        run = planes.shape[1] // (1 + seats)
+        flat = out.reshape(core.count, seats, -1)
+        flat[:, :, :run] = planes[:, None, :run]
+        for seat in range(seats):
+            copy_own_first(planes[:, run:], seat, flat[:, seat, run : run * (1 + seats)], run)
+        self._show_seats(out.reshape(*out.shape[:3], run))
+        if core.games.map is not None:
+            out[:, :, -1] = core.games.hazards[:, None]
         return out
+
+    def _show_seats(self, out: np.ndarray) -> None:
+        """Writes the planes of health and of length."""
+        seats, both = self.core.seats, self.core.health_and_length()
+        for first, mine in ((1 + seats, both[:, :seats]), (1 + 2 * seats, both[:, seats:])):
+            out[:, :, first : first + seats] = mine[:, self._order, None]
 
 
 class SeatEnv(Environments):
