@@ -128,7 +128,7 @@ class Records:
         self.inside = numpy.zeros((games.count, 4), "i2")  # left, right, bottom, top
         self.names, self.begun = [""] * games.count, 0
         self._into = ctypes.create_string_buffer(self.each)
-        self._length, self._orders, self._setup = c_size_t(), SeatOrders(), SeatSetup()
+        self._length, self._orders = c_size_t(), SeatOrders()
         self._orders.food = b""
         self._address = address_of(self.slots)
 
@@ -170,26 +170,29 @@ class Records:
     def start(self, cells: Lent, fed: Lent, each: int, marks: Lent) -> None:
         """Makes the records of the marked games, which were started in memory."""
         marked = numpy.frombuffer(string_at(marks.at, marks.entries), "u1")
-        for game in numpy.flatnonzero(marked).tolist():
-            self._start_one(game, cells, fed, each)
+        rows = numpy.flatnonzero(marked)
+        self.lengths[rows] = self.hazards[rows] = 0
+        self.inside[rows] = 0, self.games.width - 1, 0, self.games.height - 1
+        heads, food = string_at(cells.at, cells.entries), string_at(fed.at, fed.entries)
+        setup, seats, length = self._new_setup(each), self.games.seats, self._length
+        for game in rows.tolist():
+            self._name(game)
+            setup.starts = heads[2 * game * seats : 2 * (game + 1) * seats]
+            setup.food = food[2 * game * each : 2 * (game + 1) * each]
+            status = library.arena_start(byref(setup), self._at(game), self.each, byref(length))
+            if status != NOT_A_SETUP:  # else it is over in memory, without a snake
+                check(status)
+                self.lengths[game] = length.value
 
-    def _start_one(self, game: int, cells: Lent, fed: Lent, each: int) -> None:
-        own, setup, seats = self.games.settings, self._setup, self.games.seats
-        setup.starts, setup.starts_len = string_at(cells.at + 2 * game * seats, 2 * seats), seats
-        setup.food, setup.food_len = string_at(fed.at + 2 * game * each, 2 * each), each
+    def _new_setup(self, foods: int) -> SeatSetup:
+        """The setup of a game, but for its cells."""
+        own, setup = self.games.settings, SeatSetup()
+        setup.starts_len, setup.food_len = self.games.seats, foods
         setup.hazards, setup.hazards_len, setup.has_hazards = b"", 0, 1
         setup.mode, setup.width, setup.height = own.mode, own.width, own.height
         setup.min_food, setup.chance = own.min_food, own.chance
         setup.damage = self.settings.hazard_damage
-        self.lengths[game] = 0
-        self._name(game)
-        into, length = self._into, self._length
-        status = library.arena_start(byref(setup), into, self.each, byref(length))
-        if status == NOT_A_SETUP:
-            return  # in memory it is over, without a snake
-        check(status)
-        self._keep(game, string_at(into, length.value))
-        self.inside[game] = 0, self.games.width - 1, 0, self.games.height - 1
+        return setup
 
     def play(self, turns: Lent, drawn: Lent, each: int) -> None:
         """A turn of each game that is not over and is below turn 10,000."""
