@@ -15,16 +15,23 @@ const texts = (selector) => [...document.querySelectorAll(selector)].map((it) =>
 return { titles: texts('.stage h3'), tables: texts('#tables h2'), champion: texts('#champion')[0],
   matches: document.querySelectorAll('.match').length, won: texts('.match .won .bot') };
 """
+INSIDE = """
+const right = (it) => it.getBoundingClientRect().right;
+return [...document.querySelectorAll('.match > div > *')]
+  .every((it) => right(it) <= right(it.closest('.match')));
+"""
+LONG = "a-bot-with-a-very-long-name-of32"
 
 
 @pytest.mark.parametrize("kind", ["double_elimination", "groups"])
 def test_bracket_is_looked_at(
     program: Path, small_bots: Served, browser: chromium.Browser, tmp_path: Path, kind: str
 ) -> None:
-    """All matches are there, stage by stage; a game of one opens in the viewer."""
+    """All matches are there, stage by stage, with names of any length; a game of one opens in the
+    viewer. Nobody can enter."""
     path = write_config(
         tmp_path / "cup.toml",
-        [(name, small_bots.url(name)) for name in SMALL],
+        [(LONG if name == "lazy" else name, small_bots.url(name)) for name in SMALL],
         **{"folder": str(tmp_path / "cup"), "pairing": kind, "games": 2, "turns": 20},
         **{"timeout": 5000, "seed": 1, "name": "Autumn cup"},
     )
@@ -46,11 +53,17 @@ def test_bracket_is_looked_at(
                 ]
                 assert shown["titles"][-2:] == ["Grand final", "Second final"]
                 assert shown["matches"] == 7 + 6 + 2
-            assert shown["won"] and fits(browser)
+            assert shown["won"] and fits(browser) and browser.run(INSIDE)
             assert browser.run("return document.title") == "Autumn cup"
         browser.click(".match .games a")
         browser.wait("return document.body.dataset.state === 'open'", seconds=60)
         browser.click("#back_link")
         browser.wait("return document.querySelectorAll('.match').length > 3", seconds=60)
+        browser.click("header a")
+        browser.wait("return document.getElementById('facts').textContent")
+        hidden = (
+            "return ['enter_part', 'seasons_link'].map((id) => document.getElementById(id).hidden)"
+        )
+        assert browser.run(hidden) == [True, True]
         assert browser.complaints() == []
     resize(browser, (1500, 1250))

@@ -41,7 +41,7 @@ def write_about(config: Config) -> None:
 
 
 def about_of(store: Store, folder: Path) -> dict[str, Any]:
-    """The name, the facts and the text for authors of a ladder."""
+    """The name, the facts and the text for authors of a ladder; nobody enters a tournament."""
     try:
         kept = json.loads(about_file(folder).read_text())
         name = fit_text(str(kept["name"]))
@@ -50,10 +50,11 @@ def about_of(store: Store, folder: Path) -> dict[str, Any]:
         name = enter = ""
     identity = store.identity() or {}
     pairing = identity.get("pairing", "")
+    ask = "" if pairing in TOURNAMENTS else ASK
     return {
         "name": name or folder.resolve().name,
         "facts": facts_of(identity) if "rules" in identity else [],
-        "enter": enter or ASK,
+        "enter": enter or ask,
         "is_tournament": pairing in TOURNAMENTS,
     }
 

@@ -49,8 +49,8 @@ class KeptAnswers:
 
     def __init__(self, folder: Path) -> None:
         self.folder = folder
-        kept = (folder / "answers").glob("*.jsonl.gz")
-        self.files = deque(sorted(kept, key=lambda path: (path.stat().st_mtime, path.name)))
+        kept = [(path.stat().st_mtime, path.name) for path in (folder / "answers").glob("*.gz")]
+        self.files = deque(name for _, name in sorted(kept))  # the oldest first
 
     def keep(self, game: str) -> None:
         """Keeps the answers of a game whose result is stored, and forgets the oldest ones."""
@@ -61,10 +61,10 @@ class KeptAnswers:
             unfinished = path.with_suffix(".unfinished")
             unfinished.write_bytes(gzip.compress(source.read_bytes(), 6))
             os.replace(unfinished, path)
-            self.files.append(path)
+            self.files.append(path.name)
         forget_answers(self.folder, game)
         while len(self.files) > MOST_GAMES:
-            self.files.popleft().unlink(missing_ok=True)
+            (self.folder / "answers" / self.files.popleft()).unlink(missing_ok=True)
 
 
 def heard_in(folder: Path, game: str) -> list[dict[str, Heard]] | None:

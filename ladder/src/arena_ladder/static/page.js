@@ -135,7 +135,9 @@ function showAbout(about) {
     showTitle(about, about.name);
     document.getElementById('facts').textContent = about.facts.join(', ');
     document.getElementById('enter').textContent = about.enter;
+    document.getElementById('enter_part').hidden = !about.enter;
     document.getElementById('bracket_link').hidden = !about.is_tournament;
+    document.getElementById('seasons_link').hidden = about.is_tournament;
   }
 }
 
