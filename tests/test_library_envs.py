@@ -6,6 +6,7 @@ over them; else over the stand-ins of arena_rules/standins.py.
 """
 import copy
 import sys
+import threading
 
 import pytest
 from program import ROOT
@@ -206,9 +207,12 @@ class TestVectorApi:
         assert frame.shape == (9 * 16, 7 * 16, 3) and frame.dtype == np.uint8
 
     def test_close(self, make):
+        before = threading.active_count()
         env = make(4, seed=1, threads=2)
         env.reset()
+        assert threading.active_count() > before
         env.close()
+        assert threading.active_count() == before
         env.close()
         assert env.closed is True
 

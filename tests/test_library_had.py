@@ -141,6 +141,32 @@ class TestRust:
         flags = {**os.environ, "RUSTDOCFLAGS": "-Dwarnings"}
         ran(*words, cwd=ROOT / "bindings/rust", env=flags)
 
+    @with_cargo
+    def test_a_crate_elsewhere(self, tmp_path):
+        """By the line that docs/SIMULATOR.md gives for Cargo.toml."""
+        line = 'arena-rules = { path = "/where/arena/is/bindings/rust" }'
+        assert f"`{line}`" in (ROOT / "docs/SIMULATOR.md").read_text()
+        line = line.replace("/where/arena/is", str(ROOT))
+        about = '[package]\nname = "bot"\nversion = "0.1.0"\nedition = "2021"\n'
+        (tmp_path / "Cargo.toml").write_text(f"{about}[dependencies]\n{line}\n")
+        (tmp_path / "src").mkdir()
+        code = 'fn main() { println!("{:?}", arena_rules::is_legal(&[1])); }\n'
+        (tmp_path / "src/main.rs").write_text(code)
+        assert ran("cargo", "run", "--quiet", "--offline", cwd=tmp_path) == "Ok(false)\n"
+
+
+class TestBuild:
+    """What bindings/build takes."""
+
+    def test_other_words(self):
+        import subprocess
+
+        words = [ROOT / "bindings/build", "--quick"]
+        done = subprocess.run(words, capture_output=True, text=True)
+        assert done.returncode == 2 and "no option --quick" in done.stderr
+        first = words[0].read_text().split("set -euo", 1)[0]
+        assert re.search(r"build --unproved +# compiles it without any proof: a minute\n", first)
+
 
 class TestWheel:
     """`pip install ./bindings/python` in a fresh environment, without the network."""
@@ -182,6 +208,26 @@ class TestWheel:
             (it / "arena_rules-1.1.0-py3-none-linux_x86_64.whl").read_bytes() for it in folders
         ]
         assert wheels[0] == wheels[1]
+
+
+class TestTypes:
+    """The module is typed: `py.typed` says so."""
+
+    def test_each_function(self):
+        import ast
+
+        count, untyped = 0, []
+        for path in sorted((ROOT / "bindings/python/arena_rules").glob("*.py")):
+            for node in ast.walk(ast.parse(path.read_text())):
+                if not isinstance(node, ast.FunctionDef):
+                    continue
+                own = node.args
+                given = [*own.posonlyargs, *own.args, *own.kwonlyargs, own.vararg, own.kwarg]
+                names = [it.arg for it in given if it is not None and it.annotation is None]
+                if [it for it in names if it != "self"] or node.returns is None:
+                    untyped.append(f"{path.name}: {node.name}")
+                count += 1
+        assert count > 150 and untyped == []
 
 
 class TestPackages:

@@ -121,7 +121,9 @@ def _fits(shape: tuple[int, ...], wanted: tuple[int, ...]) -> bool:
     return len(shape) == len(wanted) and all(most in (-1, length) for length, most in pairs)
 
 
-def shape_fault(name: str, shape: tuple[int, ...], shapes: tuple[tuple[int, ...], ...]):
+def shape_fault(
+    name: str, shape: tuple[int, ...], shapes: tuple[tuple[int, ...], ...]
+) -> ValueError:
     """The error of a shape that is none of these."""
     may = " or ".join(str(it).replace("-1", "any") for it in dict.fromkeys(shapes))
     return ValueError(f"{name} has the shape {shape}, and may have {may}")

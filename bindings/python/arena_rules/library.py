@@ -39,7 +39,7 @@ class ArenaError(Exception):
 
     status: int
 
-    def __init__(self, status: int, why: str | None = None):
+    def __init__(self, status: int, why: str | None = None) -> None:
         words = FAULTS[status] if status < len(FAULTS) else f"status {status}"
         super().__init__(words or "")
         if why is not None:
@@ -250,5 +250,6 @@ def check(status: int) -> None:
 def mode_number(mode: str) -> int:
     """The number of a mode."""
     if mode not in MODES:
-        raise ValueError(f"mode is {mode!r}, and may be {', '.join(MODES)}")
+        more = "; royale is a map of standard games" if mode == "royale" else ""
+        raise ValueError(f"mode is {mode!r}, and may be {', '.join(MODES)}{more}")
     return MODES[mode]
