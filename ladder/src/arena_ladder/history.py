@@ -7,7 +7,7 @@ from operator import itemgetter
 from typing import Any
 
 from arena_ladder.quantiles import quantile
-from arena_ladder.rating import Comparisons, Games, ratings_from
+from arena_ladder.rating import Comparisons, ratings_from
 from arena_ladder.store import Store
 from arena_ladder.sums import LAST_MISSES
 
@@ -89,10 +89,9 @@ def ratings_over_time(store: Store) -> dict[str, list[Point]]:
     points: dict[str, list[Point]] = {name: [] for name in results.names}
     seen: set[str] = set()
     for block, rows in groupby(store.sums.rows(BLOCKS), key=itemgetter(0)):
-        for _, *values in rows:
-            games = Games(*values)
-            seen |= {games.one, games.other}
-            results.add_games(games)
+        pairs = [row[1:] for row in rows]
+        seen.update(name for pair in pairs for name in pair[:2])
+        results.add_games(pairs)
         at = min(count, (block + 1) << shift)
         for name, rating in ratings_from(results).items():
             if name in seen:

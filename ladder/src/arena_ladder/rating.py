@@ -16,7 +16,6 @@ from collections.abc import Iterable, Mapping, Sequence
 from dataclasses import dataclass
 from itertools import combinations
 from types import MappingProxyType
-from typing import NamedTuple
 
 import numpy as np
 from numpy.typing import NDArray
@@ -39,17 +38,9 @@ class Rating:
     error: float
 
 
-class Games(NamedTuple):
-    """The games of some number of seats in which two bots met."""
-
-    one: str
-    other: str
-    seats: int
-    games: int
-    outlived: int  # in which the first lived longer
-    equal: int
-
-
+# Two bots, a number of seats, and of the games of so many in which they met: all, those in which the
+# first lived longer, and those in which neither did.
+Pair = tuple[str, str, int, int, int, int]
 NONE: Mapping[str, str] = MappingProxyType({})
 
 
@@ -63,7 +54,7 @@ class Comparisons:
         self.names = list(names)
         self.at = {name: at for at, name in enumerate(self.names)}
         size = len(self.names)
-        self.wins = [[0.0] * size for _ in range(size)]
+        self.wins: Numbers = np.zeros((size, size))
         self.free = [float(name not in replaced) for name in self.names]
         for pair in replaced.items():
             self.add([(name, 0.0) for name in pair])
@@ -73,14 +64,19 @@ class Comparisons:
         weight = 2 / len(lived)
         for (one, its), (other, others) in combinations(lived, 2):
             share = 0.5 if its == others else float(its > others)
-            self.wins[self.at[one]][self.at[other]] += weight * share
-            self.wins[self.at[other]][self.at[one]] += weight * (1 - share)
+            self.wins[self.at[one], self.at[other]] += weight * share
+            self.wins[self.at[other], self.at[one]] += weight * (1 - share)
 
-    def add_games(self, it: Games) -> None:
-        """Adds games of two bots."""
-        weight, share = 2 / it.seats, it.outlived + it.equal / 2
-        self.wins[self.at[it.one]][self.at[it.other]] += weight * share
-        self.wins[self.at[it.other]][self.at[it.one]] += weight * (it.games - share)
+    def add_games(self, pairs: Sequence[Pair]) -> None:
+        """Adds the games of pairs of bots."""
+        if not pairs:
+            return
+        ones = [self.at[pair[0]] for pair in pairs]
+        others = [self.at[pair[1]] for pair in pairs]
+        seats, games, outlived, equal = np.array([pair[2:] for pair in pairs], np.float64).T
+        weights, shares = 2 / seats, outlived + equal / 2
+        np.add.at(self.wins, (ones, others), weights * shares)
+        np.add.at(self.wins, (others, ones), weights * (games - shares))
 
 
 def ratings(
@@ -98,7 +94,7 @@ def ratings(
 def ratings_from(results: Comparisons) -> dict[str, Rating]:
     """The rating of each bot from these comparisons."""
     size = len(results.names)
-    wins: Numbers = np.array(results.wins).reshape(size, size)
+    wins = results.wins
     strengths: Numbers = np.zeros(size)
     free: Numbers = np.array(results.free)
     for _ in range(MOST_STEPS):

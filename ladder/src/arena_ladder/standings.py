@@ -17,7 +17,7 @@ from arena_ladder.marks import Mark, mark_of, marks_of
 from arena_ladder.misses import Miss
 from arena_ladder.outcome import SeatResult
 from arena_ladder.quantiles import quantile
-from arena_ladder.rating import Comparisons, Games, Rating, ratings_from
+from arena_ladder.rating import Comparisons, Rating, ratings_from
 from arena_ladder.store import Store
 from arena_ladder.sums import ALL
 from arena_ladder.texts import cell_text, fit_text
@@ -79,8 +79,7 @@ def comparisons_of(store: Store, names: list[str]) -> Comparisons:
     """How often each bot outlived each other one, in all games."""
     compared = Comparisons(names, store.replaced())
     pairs = "SELECT one, other, seats, games, outlived, equal FROM pair WHERE block = ?"
-    for row in store.sums.rows(pairs, ALL):
-        compared.add_games(Games(*row))
+    compared.add_games(store.sums.rows(pairs, ALL))
     return compared
 
 
