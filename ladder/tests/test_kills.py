@@ -268,6 +268,7 @@ def test_second_ladder_in_a_folder_is_refused(
     config = config_in(tmp_path, small_bots)
     process = start_play(config, program)
     wait_for(process, lambda: bytes_played(tmp_path / "results") > 0)
+    process.send_signal(signal.SIGSTOP)  # so that it is not done when the other one has started
     second = run_ladder("play", config, "--program", program)
     assert second.returncode == 1
     assert second.stderr == f"ladder: another ladder is playing in {tmp_path / 'results'}\n"
