@@ -149,6 +149,24 @@ class TestTurns:
                 shown = games.memory[number].head.seats[seat]
                 assert CAUSES[shown.cause] == snake["cause"] and shown.out == (snake["out"] or 0)
 
+    @pytest.mark.parametrize("sides, seats", [((25, 25), 8), ((3, 4), 2), ((12, 11), 1)])
+    def test_sides(self, rules, sides, seats):
+        """On boards of other sizes the records stay legal, and the hazards reach the last cell."""
+        from arena_rules import records
+
+        width, height = sides
+        own = {"width": width, "height": height, "seats": seats, "mode": "solo", "min_food": 9}
+        games, _, _ = started(rules, 10, map=rules.Royale(1, 0, SEED), **own)
+        for _ in range(60):
+            games.step(games.free_steps().argmax(axis=2), np.arange(320).reshape(10, 32))
+        assert all(records.is_legal(games.record(it)) for it in range(10))
+        assert games.hazards.sum(axis=(1, 2)).max() == width * height and games.turns.max() > 5
+
+    def test_no_games(self, rules):
+        games = rules.Games(0, map="royale")
+        games.step([])
+        assert games.start([]) == 0 and len(games.copy()) == 0
+
     def test_threads_and_copies(self, rules):
         own = rules.Royale(shrink_every=2, seed=SEED)
         one, _, _ = started(rules, 40, map=own)

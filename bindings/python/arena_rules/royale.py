@@ -276,7 +276,7 @@ class Records:
 
     def _show(self, rows: Any) -> None:
         """Makes the structs of these games those of their records' boards without the hazards."""
-        slots, each, address = self.slots.data.cast("B"), self.each, self.games._address
+        slots, each, address = self.slots.reshape(-1).data, self.each, self.games._address
         for game, length in zip(rows.tolist(), self.lengths[rows].tolist()):
             record = slots[game * each : game * each + length].tobytes()
             check(self._load(record, address + game * self.games._size))
