@@ -13,7 +13,8 @@ from testing import chromium  # of viewer/
 SHOWN = """
 const texts = (selector) => [...document.querySelectorAll(selector)].map((it) => it.textContent);
 return { titles: texts('.stage h3'), tables: texts('#tables h2'), champion: texts('#champion')[0],
-  matches: document.querySelectorAll('.match').length, won: texts('.match .won .bot') };
+  matches: document.querySelectorAll('.match').length, won: texts('.match .won .bot'),
+  last: texts('.stages:last-child .match').join() };
 """
 INSIDE = """
 const right = (it) => it.getBoundingClientRect().right;
@@ -51,8 +52,10 @@ def test_bracket_is_looked_at(
                 assert shown["titles"][:3] == [
                     *("Winners: Quarterfinals", "Winners: Semifinals", "Winners: Final")
                 ]
-                assert shown["titles"][-2:] == ["Grand final", "Second final"]
-                assert shown["matches"] == 7 + 6 + 2
+                second = ["Second final"] * (shown["titles"][-1] == "Second final")
+                assert shown["titles"][-1 - len(second) :] == ["Grand final", *second]
+                assert shown["matches"] == 7 + 6 + 1 + len(second)
+                assert "bye" not in shown["last"]
             assert shown["won"] and fits(browser) and browser.run(INSIDE)
             assert browser.run("return document.title") == "Autumn cup"
         browser.click(".match .games a")

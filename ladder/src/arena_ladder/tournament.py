@@ -137,9 +137,11 @@ class Tournament:
         ]
 
     def stages(self) -> list[dict[str, Any]]:
-        """The matches by their stages, in their order."""
+        """The matches by their stages, in their order, without a second final that is not due."""
         stages: dict[str, list[dict[str, Any]]] = {}
         for match in self.matches:
+            if match.stage == SECOND and self.is_won_by_winners(match):
+                continue
             stages.setdefault(match.stage, []).append(self.row_of(match))
         return [{"title": title, "matches": rows} for title, rows in stages.items()]
 
