@@ -26,6 +26,7 @@ PATIENCE = [
 ]
 INSTALL_SECONDS = 900
 ANSWER_SECONDS = 120
+DRIVER_STARTS = 5
 
 
 class NotToBeHad(Exception):
@@ -61,18 +62,31 @@ def install():
             )
 
 
-class Browser:
-    """A window of Chromium and its driver. It resolves no host name but 127.0.0.1."""
-
-    def __init__(self):
-        self.profile = tempfile.mkdtemp(prefix="viewer-chromium-")
-        self.driver = subprocess.Popen(
+def start_driver():
+    """Starts the driver. Returns it with the port that it chose, which is in a line of its output.
+    It ends at once if another program took that port meanwhile; then it is started again."""
+    for _ in range(DRIVER_STARTS):
+        driver = subprocess.Popen(
             [shutil.which("chromedriver"), "--port=0"],
             stdout=subprocess.PIPE,
             stderr=subprocess.DEVNULL,
             text=True,
         )
-        self.root = f"http://127.0.0.1:{self.port()}"
+        for line in driver.stdout:
+            if "started successfully on port" in line:
+                return driver, int(line.split("port")[1].strip(" .\n"))
+        driver.stdout.close()
+        driver.wait()
+    raise RuntimeError("chromedriver did not start")
+
+
+class Browser:
+    """A window of Chromium and its driver. It resolves no host name but 127.0.0.1."""
+
+    def __init__(self):
+        self.profile = tempfile.mkdtemp(prefix="viewer-chromium-")
+        self.driver, port = start_driver()
+        self.root = f"http://127.0.0.1:{port}"
         self.session = None
         try:
             self.session = self.call(
@@ -81,13 +95,6 @@ class Browser:
         except BaseException:
             self.close()
             raise
-
-    def port(self):
-        """The port that the driver chose, from a line of its output."""
-        for line in self.driver.stdout:
-            if "started successfully on port" in line:
-                return int(line.split("port")[1].strip(" .\n"))
-        raise RuntimeError("chromedriver did not start")
 
     def wishes(self):
         words = [
