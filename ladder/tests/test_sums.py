@@ -12,11 +12,12 @@ from pathlib import Path
 import pytest
 from synthetic import BOTS, drawn_games, fill_quickly
 
+from arena_ladder import history
 from arena_ladder import sums as sums_of_games
 from arena_ladder.config import Bot
-from arena_ladder.history import games_of, ratings_over_time, record_of
+from arena_ladder.history import OverTime, games_of, record_of
 from arena_ladder.outcome import Outcome
-from arena_ladder.rating import ratings
+from arena_ladder.rating import Comparisons, Rating, ratings, ratings_from
 from arena_ladder.standings import standings_of
 from arena_ladder.store import Store, open_store
 from arena_ladder.sums import FROM_ROWS
@@ -86,12 +87,38 @@ def test_blocks_of_games_are_joined_and_add_up(folder: Path) -> None:
         whole = "SELECT one, other, seats, SUM(games), SUM(outlived), SUM(equal) FROM pair"
         both = [f"{whole} WHERE block {where} GROUP BY 1, 2, 3" for where in ("< 0", ">= 0")]
         assert store.sums.rows(both[0]) == store.sums.rows(both[1])
-        over_time = ratings_over_time(store)
+        over_time = OverTime().read(store)
         rows = {it.bot: round(it.rating.elo, 1) for it in standings_of(store)}
     for bot in BOTS:
         assert len(over_time[bot]) <= sums_of_games.MOST_BLOCKS
         assert over_time[bot][-1][:2] == (GAMES, rows[bot])
         assert [it[0] for it in over_time[bot]][-2:] == [296, 300]
+
+
+def test_ratings_after_full_blocks_are_computed_once(
+    tmp_path: Path, monkeypatch: pytest.MonkeyPatch
+) -> None:
+    """They are those that are computed anew, also after blocks are joined and a bot has come."""
+    rated: list[int] = []
+
+    def count(results: Comparisons) -> dict[str, Rating]:
+        rated.append(1)
+        return ratings_from(results)
+
+    monkeypatch.setattr(history, "ratings_from", count)
+    over_time = OverTime()
+    with closing(Store(tmp_path)) as store:
+        store.begin({"pairing": "rating"}, [Bot(name, "http://h") for name in BOTS])
+        for at, game in enumerate(drawn_games(130, random.Random(4)), 1):
+            store.add([game])
+            if at == 70:
+                store.begin({"pairing": "rating"}, [Bot("late", "http://h")])
+            if at % 7 == 0:
+                assert over_time.read(store) == OverTime().read(store)
+        over_time.read(store)
+        rated.clear()
+        assert over_time.read(store) == OverTime().read(store)
+        assert len(rated) == 1 + 33  # there are 33 blocks of four, of which the last is not full
 
 
 def test_sum_that_was_changed_is_named(folder: Path, tmp_path: Path) -> None:

@@ -6,7 +6,7 @@ import asyncio
 import ipaddress
 import socket
 import threading
-from collections.abc import Iterable
+from collections.abc import Collection, Iterable
 
 REFRESH_SECONDS = 300.0
 RETRY_SECONDS = 15.0  # after a failure
@@ -32,6 +32,7 @@ class Name:
     def __init__(self) -> None:
         self.addresses: list[str] = []
         self.is_resolved = asyncio.Event()
+        self.ends = threading.Event()  # nobody asks for it any more
 
     def take(self, found: list[str]) -> None:
         """Takes the result of a lookup; after a failure the known addresses stay."""
@@ -48,7 +49,6 @@ class AddressBook:
 
     def __init__(self) -> None:
         self.names: dict[str, Name] = {}
-        self._ends = threading.Event()
 
     def begin(self, hosts: Iterable[str]) -> None:
         """Starts to resolve names; addresses are none."""
@@ -59,7 +59,13 @@ class AddressBook:
                 threading.Thread(target=self._keep, args=words, daemon=True).start()
 
     def close(self) -> None:
-        self._ends.set()
+        for name in self.names.values():
+            name.ends.set()
+
+    def keep_only(self, hosts: Collection[str]) -> None:
+        """Forgets all names but these, and ends their threads."""
+        for host in [it for it in self.names if it not in hosts]:
+            self.names.pop(host).ends.set()
 
     async def of(self, host: str) -> list[str]:
         """The addresses of a host, that which served last first; raises OSError without any.
@@ -90,8 +96,8 @@ class AddressBook:
             name.addresses.append(address)
 
     def _keep(self, host: str, name: Name, loop: asyncio.AbstractEventLoop) -> None:
-        """Resolves a name until the run ends."""
-        while not self._ends.is_set():
+        """Resolves a name until it is forgotten, or the run ends."""
+        while True:
             try:
                 found = addresses_of(host)
             except (OSError, UnicodeError):
@@ -100,4 +106,5 @@ class AddressBook:
                 loop.call_soon_threadsafe(name.take, found)
             except RuntimeError:
                 return  # the loop is closed
-            self._ends.wait(REFRESH_SECONDS if found else RETRY_SECONDS)
+            if name.ends.wait(REFRESH_SECONDS if found else RETRY_SECONDS):
+                return

@@ -5,7 +5,7 @@ from __future__ import annotations
 import json
 import os
 import re
-from collections.abc import Iterable, Sequence
+from collections.abc import Collection, Iterable, Sequence
 from dataclasses import dataclass, replace
 from typing import Any
 
@@ -74,6 +74,11 @@ class BotClient:
         for bot in bots:
             if bot.ca or not bot.verify:
                 self.connections.trusted[bot.url] = client_context(bot.ca, bot.verify)
+
+    def keep_only(self, urls: Collection[str]) -> None:
+        """Forgets all bots but those of some addresses: their connections, and their names."""
+        self.connections.keep_only(urls)
+        self.addresses.keep_only({target_of(url).place.host for url in urls})
 
     async def look(self, url: str) -> Look:
         """Asks a bot for its look; raises `NoLook` if it sends none."""

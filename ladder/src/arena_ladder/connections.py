@@ -8,7 +8,7 @@ import select
 import socket
 import ssl
 from collections import defaultdict
-from collections.abc import Callable, Sequence
+from collections.abc import Callable, Collection, Sequence
 
 from arena_ladder.addresses import AddressBook
 from arena_ladder.misses import BadAnswer, Miss
@@ -18,9 +18,14 @@ from arena_ladder.response import NOTHING, Response
 from arena_ladder.tls import Tls, Wire, client_context
 from arena_ladder.urls import Place
 
+IDLE_SECONDS = 60.0  # of a connection, after which it is closed
+TRIM_SECONDS = 15.0  # from one look for such connections to the next
 OWN_FAULTS = (  # of this machine, so that no bot is blamed
     *(errno.EMFILE, errno.ENFILE, errno.ENOBUFS, errno.ENOMEM, errno.EADDRNOTAVAIL),
 )
+
+
+NOBODY = Owner()
 
 
 class Exchange:
@@ -45,6 +50,7 @@ class Exchange:
         self.timer = self.loop.call_later(seconds, self.time_out, Miss.REFUSED)
         self.looks: asyncio.TimerHandle | None = None
         self.is_reused = self.is_sent = self.is_timed_out = False
+        self.owner = NOBODY  # of its connections, once it has begun
         self.connection: Connection | None = None
         self.connecting: asyncio.Task[None] | None = None
         self.cause: Miss | None = None
@@ -93,9 +99,10 @@ class Exchange:
 class Connection(asyncio.Protocol):
     """A connection to a bot, with at most one request at a time."""
 
-    def __init__(self, pool: Connections, bot: str) -> None:
+    def __init__(self, pool: Connections, owner: Owner) -> None:
         self.pool = pool
-        self.owner = pool.owners[bot]
+        self.owner = owner
+        self.rested_at = 0.0
         self.exchange: Exchange | None = None
         self.response = Response()
         self.tls: Tls | None = None
@@ -138,6 +145,8 @@ class Connection(asyncio.Protocol):
 
     def rest(self) -> None:
         """Waits for the next request."""
+        self.rested_at = asyncio.get_running_loop().time()
+        self.pool.trim_later()
         if self.tls is not None:
             self.tls.rest()
 
@@ -214,6 +223,7 @@ class Connections:
         self.secure = client_context()
         self.trusted: dict[str, ssl.SSLContext] = {}  # by the address of a bot with its own
         self.permits: Callable[[str, str], bool] = lambda bot, address: True
+        self._trimming: asyncio.TimerHandle | None = None
 
     async def __aenter__(self) -> Connections:
         return self
@@ -224,8 +234,30 @@ class Connections:
     def close(self) -> None:
         """Closes the idle connections, and stops looking up names."""
         for owner in self.owners.values():
-            owner.close()
+            owner.go()
+        if self._trimming is not None:
+            self._trimming.cancel()
         self.addresses.close()
+
+    def keep_only(self, bots: Collection[str]) -> None:
+        """Forgets all bots but these, and closes the connections of the others."""
+        for bot in [it for it in self.owners if it not in bots]:
+            self.owners.pop(bot).go()
+
+    def trim_later(self) -> None:
+        """Looks after a while for connections that are idle for long, unless it will."""
+        if self._trimming is None:
+            loop = asyncio.get_running_loop()
+            self._trimming = loop.call_later(TRIM_SECONDS, self._trim)
+
+    def _trim(self) -> None:
+        """Closes the connections that are idle for long: so many were used at once, once."""
+        self._trimming = None
+        before = asyncio.get_running_loop().time() - IDLE_SECONDS
+        for owner in self.owners.values():
+            owner.trim(before)
+        if any(owner.idle for owner in self.owners.values()):
+            self.trim_later()
 
     def serial_bots(self) -> list[str]:
         """The addresses of the bots that serve one connection at a time."""
@@ -246,11 +278,12 @@ class Connections:
         finally:
             for exchange in exchanges:
                 exchange.abandon()
-                self.owners[exchange.bot].unread.discard(exchange)
+                exchange.owner.unread.discard(exchange)
 
     def _start(self, exchange: Exchange) -> None:
         """Sends a request on an idle connection, or makes one for it."""
-        connection = self.owners[exchange.bot].take()
+        exchange.owner = self.owners[exchange.bot]
+        connection = exchange.owner.take()
         if isinstance(connection, Connection):
             exchange.is_reused = True
             connection.send(exchange)
@@ -268,12 +301,12 @@ class Connections:
         """Closes idle connections of a bot that may not have read a request because of them."""
         connection = exchange.connection
         if connection is None or connection.response.seen == 0:
-            self.owners[exchange.bot].wait(exchange)
+            exchange.owner.wait(exchange)
 
     async def _connect(self, exchange: Exchange) -> None:
         """Makes a connection and sends a request on it."""
         try:
-            connection = await self._connection(exchange.place, exchange.bot)
+            connection = await self._connection(exchange)
         except Exception as fault:
             is_own = not isinstance(fault, OSError) or fault.errno in OWN_FAULTS
             exchange.fault, exchange.why = fault if is_own else None, str(fault)
@@ -287,15 +320,16 @@ class Connections:
         else:
             connection.send(exchange)
 
-    async def _connection(self, place: Place, bot: str) -> Connection:
-        """Connects to one of the addresses of a place."""
+    async def _connection(self, exchange: Exchange) -> Connection:
+        """Connects to one of the addresses of a request's place."""
+        place = exchange.place
 
         async def connect(address: str) -> Connection:
-            return await self._connection_to(address, place, bot)
+            return await self._connection_to(address, exchange)
 
         race = Race(connect, Connection.close)
         found = await self.addresses.of(place.host)
-        fit = [address for address in found if self.permits(bot, address)]
+        fit = [address for address in found if self.permits(exchange.bot, address)]
         if not fit:
             raise ConnectionError(f"{place.host} is in no network that is allowed")
         try:
@@ -306,13 +340,14 @@ class Connections:
             for address in race.failed:
                 self.addresses.defer(place.host, address)
 
-    async def _connection_to(self, address: str, place: Place, bot: str) -> Connection:
-        loop, connection = asyncio.get_running_loop(), Connection(self, bot)
+    async def _connection_to(self, address: str, exchange: Exchange) -> Connection:
+        loop, connection = asyncio.get_running_loop(), Connection(self, exchange.owner)
+        place, secure = exchange.place, self.trusted.get(exchange.bot, self.secure)
         if not place.is_secure:
             await loop.create_connection(lambda: connection, address, place.port)
             return connection
         try:
-            tls = Tls(connection, self.trusted.get(bot, self.secure), place.host)
+            tls = Tls(connection, secure, place.host)
         except ValueError as fault:
             raise ConnectionError(f"no name for TLS: {fault}") from None
         connection.tls = tls

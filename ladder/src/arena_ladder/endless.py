@@ -61,7 +61,8 @@ def restore(store: Store, rated: Rated) -> int:
 class Endless:
     """The source of the games of an endless ladder.
 
-    `heed` is called with the changes of the roster. All that reads the store after the beginning
+    `heed` is called with the changes of the roster, and with the bots that have left it since and
+    play no more: those that left may play on in games that were drawn before. All that reads the store after the beginning
     runs in the executor, which has one thread.
     """
 
@@ -70,7 +71,7 @@ class Endless:
         config: Config,
         store: Store,
         executor: Executor,
-        heed: Callable[[list[Change]], None],
+        heed: Callable[[list[Change], set[str]], None],
         ends_at: float,
     ) -> None:
         self.config = config
@@ -87,14 +88,18 @@ class Endless:
             for game, bots in self.rated.open.items()
             if not store.has_game(game)
         ]
-        heed(store.changes(0)[: self.rated.changes])
+        self.leaving: set[str] = set()  # bots that left, whose games may go on
+        changes = store.changes(0)[: self.rated.changes]
+        gone = self.gone_by(changes)
+        heed([it for it in changes if it.bot not in gone], gone)
 
     async def begin(self) -> Fixture | None:
         """The next game, which begins now; None if there is none at the moment."""
         loop = asyncio.get_running_loop()
         changes = await loop.run_in_executor(self.executor, self.take_changes)
-        if changes:
-            self.heed(changes)
+        gone = self.gone_by(changes)
+        if changes or gone:
+            self.heed(changes, gone)
         found = await loop.run_in_executor(self.executor, self.next)
         self.running += found is not None
         return found
@@ -107,6 +112,17 @@ class Endless:
         changes = self.store.changes(self.rated.changes)
         self.rated.advance(self.store.results(self.rated.results), changes)
         return changes
+
+    def gone_by(self, changes: list[Change]) -> set[str]:
+        """The bots that are gone since the last call, after changes that were taken."""
+        self.leaving.update(bot for it in changes for bot in (it.bot, it.old))
+        if not self.leaving:
+            return set()
+        players = self.rated.players
+        self.leaving = {it for it in self.leaving if it in players and not players[it].is_in}
+        gone = self.leaving.difference(*self.rated.open.values())
+        self.leaving -= gone
+        return gone
 
     def next(self) -> Fixture | None:
         """The next game, which is stored before it begins."""

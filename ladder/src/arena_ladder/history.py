@@ -2,12 +2,13 @@
 
 from __future__ import annotations
 
+from copy import deepcopy
 from itertools import groupby
 from operator import itemgetter
 from typing import Any
 
 from arena_ladder.quantiles import quantile
-from arena_ladder.rating import Comparisons, ratings_from
+from arena_ladder.rating import Comparisons, Pair, ratings_from
 from arena_ladder.store import Store
 from arena_ladder.sums import LAST_MISSES
 
@@ -39,7 +40,8 @@ SELECT name, cause, moves FROM last_missed JOIN game ON game.rowid = number
 WHERE bot = ? ORDER BY number DESC, cause LIMIT ?
 """
 BLOCKS = """
-SELECT block, one, other, seats, games, outlived, equal FROM pair WHERE block >= 0 ORDER BY block
+SELECT block, one, other, seats, games, outlived, equal FROM pair WHERE block >= ?
+ORDER BY block
 """
 
 Point = tuple[int, float, float]  # the games of the ladder so far, a rating, and its error
@@ -81,19 +83,51 @@ def record_of(store: Store, bot: str) -> dict[str, Any]:
     }
 
 
-def ratings_over_time(store: Store) -> dict[str, list[Point]]:
-    """The rating of each bot after each block of games of the season, from its first game on."""
-    count = store.count_games() - store.sums.first()
-    ((shift,),) = store.sums.rows("SELECT shift FROM summed")
-    results = Comparisons(bots_of(store), store.replaced())
-    points: dict[str, list[Point]] = {name: [] for name in results.names}
-    seen: set[str] = set()
-    for block, rows in groupby(store.sums.rows(BLOCKS), key=itemgetter(0)):
-        pairs = [row[1:] for row in rows]
-        seen.update(name for pair in pairs for name in pair[:2])
-        results.add_games(pairs)
-        at = min(count, (block + 1) << shift)
-        for name, rating in ratings_from(results).items():
-            if name in seen:
-                points[name].append((at, round(rating.elo, 1), round(rating.error, 1)))
-    return points
+class OverTime:
+    """The rating of each bot after each block of games of the season, from its first game on.
+
+    What follows from full blocks is kept, until bots or blocks change: only the last one grows.
+    """
+
+    def __init__(self) -> None:
+        self.key: object = None  # of what is kept
+        self.begin_anew([], {})
+
+    def begin_anew(self, names: list[str], replaced: dict[str, str]) -> None:
+        self.blocks = 0  # that are full
+        self.results = Comparisons(names, replaced)
+        self.points: dict[str, list[Point]] = {name: [] for name in names}
+
+    def read(self, store: Store) -> dict[str, list[Point]]:
+        first = store.sums.first()
+        count = store.count_games() - first
+        ((shift,),) = store.sums.rows("SELECT shift FROM summed")
+        names, replaced = bots_of(store), store.replaced()
+        key = (first, shift, names, replaced)
+        if key != self.key:
+            self.begin_anew(names, replaced)
+        self.key = None  # a read that fails keeps nothing
+        results, points = self.results, self.points
+        for block, rows in groupby(store.sums.rows(BLOCKS, self.blocks), key=itemgetter(0)):
+            at = (block + 1) << shift
+            if at > count and results is self.results:
+                results, points = self.copied()
+            add_points(results, points, [row[1:] for row in rows], min(at, count))
+            if results is self.results:
+                self.blocks = block + 1
+        self.key = key
+        return {name: list(it) for name, it in points.items()}
+
+    def copied(self) -> tuple[Comparisons, dict[str, list[Point]]]:
+        return deepcopy(self.results), {name: list(it) for name, it in self.points.items()}
+
+
+def add_points(
+    results: Comparisons, points: dict[str, list[Point]], pairs: list[Pair], at: int
+) -> None:
+    """Adds the pairs of a block, and a point for each bot that has played by then."""
+    results.add_games(pairs)
+    fresh = {name for pair in pairs for name in pair[:2]}
+    for name, rating in ratings_from(results).items():
+        if points[name] or name in fresh:
+            points[name].append((at, round(rating.elo, 1), round(rating.error, 1)))

@@ -25,6 +25,7 @@ from arena_ladder.config import ENDLESS, Config, ConfigFault, read_config
 from arena_ladder.contests import add_contests
 from arena_ladder.game import GameFault
 from arena_ladder.game_files import make_folders
+from arena_ladder.heap import use_one_heap
 from arena_ladder.hook import Hook
 from arena_ladder.keeping_commands import add_keeping_commands
 from arena_ladder.lock import LockFault, locked
@@ -91,6 +92,7 @@ def play_config(config: Config, given: argparse.Namespace) -> int:
         raise ConfigFault("an endless ladder or a tournament has no parts")
     if given.rounds is not None:
         config = replace(config, rounds=given.rounds)
+    use_one_heap()
     part = given.part or Part(1, 1)
     folder = config.folder / str(part) if given.part else config.folder
     ends_at = math.inf if given.hours is None else time.monotonic() + 3600 * given.hours

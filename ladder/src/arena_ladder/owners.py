@@ -17,7 +17,9 @@ SLOWER, SLOWER_SECONDS = 2.0, 0.05  # than its quickest answer, by which an answ
 
 
 class Kept(Protocol):
-    """A connection that may be kept."""
+    """A connection that may be kept. `rested_at` is when it became idle."""
+
+    rested_at: float
 
     def close(self) -> None:
         ...
@@ -39,6 +41,7 @@ class Owner:
         self.quickest = math.inf  # seconds of an answer
         self.is_parallel = False  # it has answered on two open connections
         self.signs = 0  # answers that came once other connections were closed
+        self.is_gone = False  # the bot is called no more
 
     @property
     def is_serial(self) -> bool:
@@ -56,7 +59,7 @@ class Owner:
 
     def keep(self, connection: Kept) -> None:
         """Keeps a connection that has answered, unless a request waits for it to be closed."""
-        if self.is_serial or (self.unread and not self.is_parallel):
+        if self.is_gone or self.is_serial or (self.unread and not self.is_parallel):
             connection.close()
         else:
             self.idle.append(connection)
@@ -83,6 +86,16 @@ class Owner:
             self.used.remove(connection)
         if connection in self.idle:
             self.idle.remove(connection)
+
+    def trim(self, before: float) -> None:
+        """Closes the connections that are idle since a moment before this one."""
+        for connection in [it for it in self.idle if it.rested_at < before]:
+            connection.close()
+
+    def go(self) -> None:
+        """Closes the idle connections, and keeps none from now on."""
+        self.is_gone = True
+        self.close()
 
     def close(self) -> None:
         """Closes the idle connections."""

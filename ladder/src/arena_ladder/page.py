@@ -26,6 +26,7 @@ from aiohttp import web
 from arena_ladder.about import about_of
 from arena_ladder.days import with_days
 from arena_ladder.feed import Feed, Results
+from arena_ladder.heap import use_one_heap
 from arena_ladder.history import bots_of
 from arena_ladder.page_calls import KINDS, Calls, faults_as_answers, files_of_page, rows_of
 from arena_ladder.page_link import Address
@@ -219,6 +220,7 @@ async def serve(ladder: socket.socket, address: Address, folder: Path, program: 
 def main(words: list[str]) -> None:
     number, host, port, folder, program = words
     os.nice(NICENESS)
+    use_one_heap()
     keep_quiet()
     ladder, address = socket.socket(fileno=int(number)), Address(host, int(port))
     asyncio.run(serve(ladder, address, Path(folder), Path(program)))

@@ -15,6 +15,7 @@
 from __future__ import annotations
 
 import asyncio
+import json
 import re
 import sqlite3
 import time
@@ -29,7 +30,7 @@ from aiohttp import web
 
 from arena_ladder.about import about_of
 from arena_ladder.feed import REST, Feed
-from arena_ladder.history import games_of, ratings_over_time, record_of
+from arena_ladder.history import OverTime, games_of, record_of
 from arena_ladder.kept_answers import rows_of_answers
 from arena_ladder.packs import commands_of
 from arena_ladder.pairing import GAME_NAME
@@ -100,6 +101,7 @@ class Calls:
         self.feed = feed
         self.folder = folder
         self.answers = Answers(folder)
+        self.over_time = OverTime()  # for the thread of the answers
         self.transcripts = Transcripts(folder, program)
 
     def routes(self) -> list[web.RouteDef]:
@@ -130,9 +132,10 @@ class Calls:
         bot, before = query.get("bot", ""), number_in(query, "before", LAST)
         count = max(1, min(MOST_GAMES, number_in(query, "count", USUAL_GAMES)))
         key = ("games", bot, before, count, query.get("at", "")[:MOST_AT])
-        return web.json_response(
-            await self.answers.get(key, lambda store: games_of(store, bot, before, count))
+        text = await self.answers.get(
+            key, lambda store: json.dumps(games_of(store, bot, before, count))
         )
+        return web.json_response(text=text)
 
     async def bot(self, request: web.Request) -> web.Response:
         bot = request.match_info["bot"]
@@ -141,7 +144,7 @@ class Calls:
         if row is None:
             raise web.HTTPNotFound(text="there is no such bot")
         record = await self.answers.get(("bot", bot), lambda store: record_of(store, bot))
-        over_time = await self.answers.get("ratings", ratings_over_time)
+        over_time = await self.answers.get("ratings", self.over_time.read)
         more = {"standing": row, "place": 1 + rows.index(row), "ratings": over_time.get(bot, [])}
         return web.json_response({**record, **more})
 

@@ -144,9 +144,9 @@ class Run:
         self.packing: set[asyncio.Task[None]] = set()
         self.ends = threading.Event()
         self.packing_lock = asyncio.Lock()
-        self.changes: list[Change] = []  # of the roster
         self.asked = {(bot.name, bot.url) for bot in context.config.bots}  # for their looks
         self.said: set[str] = set()
+        self.serial: set[str] = set()  # bots of which it was said
         self.context = context
         self.store = store
         self.keeper = keeper
@@ -180,17 +180,32 @@ class Run:
             return Playing(config, self.store, self.storing, self.ends_at)
         return Schedule(fixtures, config.games_a_bot, self.ends_at)
 
-    def heed(self, changes: list[Change]) -> None:
-        """Takes changes of the roster: new addresses, whose bots are asked for their looks."""
-        self.changes += changes
-        self.context.urls.update(urls_of(self.changes, self.context.config.bots))
-        fresh = {(it.bot, self.context.urls[it.bot]) for it in changes if it.url} - self.asked
+    def heed(self, changes: list[Change], gone: set[str]) -> None:
+        """Takes changes of the roster, and bots that are gone; asks those with new addresses for
+        their looks."""
+        urls = self.context.urls
+        urls.update(urls_of(changes, self.context.config.bots))
+        self.forget(gone)
+        fresh = {(it.bot, urls[it.bot]) for it in changes if it.url and it.bot in urls}
+        fresh -= self.asked
         self.asked |= fresh
         bots = [Bot(*it) for it in sorted(fresh)]
         looks = ask_looks(bots, self.context.client, self.context.looks, self.context.watch)
         task = asyncio.get_running_loop().create_task(looks)
         self.asking.add(task)
         task.add_done_callback(self.asking.discard)
+
+    def forget(self, gone: set[str]) -> None:
+        """Forgets bots that are gone, and the addresses at which no bot is any more."""
+        urls, looks = self.context.urls, self.context.looks
+        for bot in gone:
+            urls.pop(bot, None)
+            self.context.watch.leave(bot)
+        for bot in looks.keys() - urls.keys():
+            del looks[bot]
+        self.asked.intersection_update(urls.items())
+        self.serial.intersection_update(urls)
+        self.context.client.keep_only(set(urls.values()))
 
     async def begin_games(self, source: Source, pace: Pace, group: asyncio.TaskGroup) -> None:
         """Begins each game as soon as there is room for it, and returns when all have ended."""
@@ -214,8 +229,9 @@ class Run:
         """Says which bots serve one connection at a time, where that costs them time."""
         serial = set(self.context.client.connections.serial_bots())
         for bot, url in list(self.context.urls.items()):
-            if url in serial:
-                self.say_once(
+            if url in serial and bot not in self.serial:
+                self.serial.add(bot)
+                self.context.watch.say(
                     f"{bot} serves one connection at a time, so each is closed after its answer: "
                     "games_a_bot = 1, or a server with threads, may serve it better"
                 )

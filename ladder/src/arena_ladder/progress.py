@@ -6,7 +6,7 @@ import math
 import sys
 import time
 from collections import Counter
-from collections.abc import Mapping
+from collections.abc import Iterable, Mapping
 
 from rich.console import Console
 from rich.progress import BarColumn, MofNCompleteColumn, Progress, TextColumn, TimeElapsedColumn
@@ -22,6 +22,8 @@ from arena_ladder.watch import Watch
 
 REFRESHES_A_SECOND = 4
 ENOUGH_MOVES = 30  # for a median
+MOST_OWN = 10_000  # tenths of a millisecond; longer times count as so long
+PARTS = 32  # a time is rounded down by less than a part in so many
 GROWTH, GROWTH_MS = 1.5, 10  # a median that grows by more depends on the number of games
 
 
@@ -52,13 +54,16 @@ class Counts(Watch):
         self.lagged += any(it.is_lagged for it in answers.values())
         self.strain.count(answers)
         if own_seconds is not None:
-            self.own[math.ceil(own_seconds * 10_000)] += 1
+            self.own[min(math.ceil(own_seconds * 10_000), MOST_OWN)] += 1
 
     def end(self, outcome: Outcome) -> None:
         self.running.discard(outcome.name)
-        self.strain.playing.subtract(it.bot for it in outcome.finishes)
+        self.strain.end(it.bot for it in outcome.finishes)
         self.done += 1
         self.played += 1
+
+    def leave(self, bot: str) -> None:
+        self.strain.latencies.pop(bot, None)
 
     def rate(self) -> float:
         """The turns a second so far."""
@@ -97,12 +102,19 @@ class Strain:
 
     def __init__(self) -> None:
         self.playing: Counter[str] = Counter()  # games by bot
-        self.latencies: dict[str, dict[int, Counter[int]]] = {}  # by bot and its games
+        self.latencies: dict[str, dict[int, Counter[int]]] = {}  # rough, by bot and its games
+
+    def end(self, bots: Iterable[str]) -> None:
+        """Takes the end of a game between some bots."""
+        for bot in bots:
+            self.playing[bot] -= 1
+            if self.playing[bot] <= 0:
+                del self.playing[bot]
 
     def count(self, answers: Mapping[str, Answer]) -> None:
         for bot, answer in answers.items():
             by_games = self.latencies.setdefault(bot, {})
-            by_games.setdefault(self.playing[bot], Counter())[answer.latency] += 1
+            by_games.setdefault(self.playing[bot], Counter())[rough(answer.latency)] += 1
 
     def warnings(self) -> list[str]:
         """A line for each bot whose median with most games is far above that with fewest."""
@@ -116,6 +128,12 @@ class Strain:
                     f"{medians[-1]} ms with {enough[-1]}: a smaller games_a_bot may serve it better"
                 )
         return lines
+
+
+def rough(milliseconds: int) -> int:
+    """A time of which few different ones are kept: those below twice PARTS are exact."""
+    shift = max(0, milliseconds.bit_length() - PARTS.bit_length())
+    return milliseconds >> shift << shift
 
 
 class ProgressBar(Watch):

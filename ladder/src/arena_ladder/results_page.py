@@ -9,6 +9,7 @@ from contextlib import closing
 from pathlib import Path
 from typing import Any
 
+from arena_ladder.heap import use_one_heap
 from arena_ladder.page_link import Address, address_of
 from arena_ladder.program import add_program, program_of
 from arena_ladder.store import open_store
@@ -51,6 +52,7 @@ async def serve_results(folder: Path, program: Path, address: Address) -> None:
 def run_page(given: argparse.Namespace) -> int:
     """Serves the results of a folder until Ctrl-C or SIGTERM."""
     program = program_of(given)
+    use_one_heap()
     open_store(given.folder).close()  # finds faults before the page is served
     asyncio.run(serve_results(given.folder, program, given.address))
     return 0

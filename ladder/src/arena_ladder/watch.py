@@ -38,6 +38,9 @@ class Watch:
     def end(self, outcome: Outcome) -> None:
         """Called with the result of a game after it was stored."""
 
+    def leave(self, bot: str) -> None:
+        """Called when a bot has left the ladder and its last result is stored."""
+
     def say(self, text: str) -> None:
         """Called with a message for the person who runs the ladder."""
 
@@ -75,6 +78,10 @@ class Watches(Watch):
     def end(self, outcome: Outcome) -> None:
         for watch in self.watches:
             watch.end(outcome)
+
+    def leave(self, bot: str) -> None:
+        for watch in self.watches:
+            watch.leave(bot)
 
     def say(self, text: str) -> None:
         for watch in self.watches:

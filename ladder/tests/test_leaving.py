@@ -1,0 +1,260 @@
+"""Tests of what a long run keeps: nothing of bots that left, and little of those that stay."""
+
+from __future__ import annotations
+
+import asyncio
+import json
+import os
+import subprocess
+import sys
+import threading
+import time
+from collections.abc import Callable
+from concurrent.futures import ThreadPoolExecutor
+from contextlib import closing
+from pathlib import Path
+from typing import Any
+
+import pytest
+from served import board_with
+from test_connections import GOOD, Server, ask, run, served
+
+from arena_client import BLOCKS_OF_GAME, PROGRAM
+from arena_ladder import addresses, connections
+from arena_ladder.addresses import AddressBook
+from arena_ladder.bots import Answer, BotClient
+from arena_ladder.config import config_of
+from arena_ladder.connections import Connections, Exchange
+from arena_ladder.endless import Endless
+from arena_ladder.game import RunContext
+from arena_ladder.game_files import make_folders
+from arena_ladder.keeper import HostKeeper
+from arena_ladder.kept_answers import KeptAnswers
+from arena_ladder.outcome import Finish, Outcome, SeatResult, Tally
+from arena_ladder.pairing import Fixture
+from arena_ladder.play import Run
+from arena_ladder.progress import Counts, rough
+from arena_ladder.rated import Change
+from arena_ladder.roster import add_config_bots, mark, replace
+from arena_ladder.store import Store
+from arena_ladder.transcripts import Transcripts
+from arena_ladder.urls import request_of, target_of
+from arena_ladder.watch import Watches
+
+SECONDS = 5.0
+REPLACES = 12
+LONGEST_MS = 60_000  # of a time to move
+
+
+async def until(holds: Callable[[], bool]) -> None:
+    async with asyncio.timeout(SECONDS):
+        while not holds():
+            await asyncio.sleep(0.01)
+
+
+def descriptors() -> int:
+    return len(os.listdir("/proc/self/fd"))
+
+
+def test_connections_that_are_idle_for_long_are_closed(monkeypatch: pytest.MonkeyPatch) -> None:
+    """A bot that was asked four times at once keeps one connection while it is asked alone."""
+    monkeypatch.setattr(connections, "IDLE_SECONDS", 0.3)
+    monkeypatch.setattr(connections, "TRIM_SECONDS", 0.05)
+
+    async def work() -> None:
+        server = Server(GOOD)
+        async with served(server.serve) as place, Connections(AddressBook()) as pool:
+            target = target_of(f"http://{place}/")
+            request = request_of("GET", target, b"")
+            await pool.ask([Exchange(target.place, request, SECONDS) for _ in range(4)])
+            assert server.connections == 4
+            (owner,) = pool.owners.values()
+
+            async def work_alone() -> None:
+                while len(owner.idle) > 1:
+                    await ask(pool, f"http://{place}/")
+                    await asyncio.sleep(0.05)
+
+            await asyncio.wait_for(work_alone(), SECONDS)
+            assert server.connections == 4 and len(owner.used) == 1
+            await until(lambda: not owner.used)
+
+    run(work())
+
+
+def test_connections_of_a_bot_that_left_are_closed() -> None:
+    """An idle one at once, and one that works after its answer."""
+
+    async def work() -> None:
+        answering = asyncio.Event()
+        ended: list[bool] = []
+
+        async def slow(reader: asyncio.StreamReader, writer: asyncio.StreamWriter) -> None:
+            while await reader.readline():
+                await reader.readuntil(b"\r\n\r\n")
+                await answering.wait()
+                writer.write(GOOD)
+            ended.append(True)
+            writer.close()
+
+        async with served(slow) as place, Connections(AddressBook()) as pool:
+            answering.set()
+            await ask(pool, f"http://{place}/")
+            answering.clear()
+            asked = [asyncio.create_task(ask(pool, f"http://{place}/")) for _ in range(2)]
+            await asyncio.sleep(0.1)
+            pool.keep_only(set())
+            answering.set()
+            assert [(await it).body for it in asked] == [b"{}", b"{}"]
+            await until(lambda: len(ended) == 2)
+            assert not pool.owners
+
+    run(work())
+
+
+def test_names_of_bots_that_left_are_resolved_no_more(monkeypatch: pytest.MonkeyPatch) -> None:
+    monkeypatch.setattr(addresses, "addresses_of", lambda host: ["127.0.0.1"])
+
+    async def work() -> None:
+        book, before = AddressBook(), threading.active_count()
+        for at in range(8):
+            assert await book.of(f"bot{at}.example") == ["127.0.0.1"]
+        assert threading.active_count() == before + 8
+        book.keep_only({"bot3.example"})
+        assert list(book.names) == ["bot3.example"]
+        await until(lambda: threading.active_count() == before + 1)
+        assert await book.of("bot4.example") == ["127.0.0.1"]
+        book.close()
+        await until(lambda: threading.active_count() == before)
+
+    run(work())
+
+
+def ladder_config(folder: Path, urls: dict[str, str]) -> Any:
+    bots = [{"name": name, "url": url} for name, url in urls.items()]
+    return config_of({"folder": str(folder), "pairing": "rating", "seed": 3, "bot": bots}, "test")
+
+
+def finished(name: str, *bots: str) -> tuple[Outcome, dict[str, Tally]]:
+    finishes = tuple(Finish(bot, SeatResult.DRAW, None, None, None, 3, 40) for bot in bots)
+    return Outcome(name, 1, 40, 43, "0" * 64, finishes), {bot: Tally() for bot in bots}
+
+
+def test_bot_that_left_is_gone_once_its_last_game_has_ended(tmp_path: Path) -> None:
+    """Also where the ladder was ended between."""
+    config = ladder_config(tmp_path, {f"b{at}": f"http://127.0.0.1:9/{at}" for at in range(3)})
+    heard: list[tuple[list[str], set[str]]] = []
+
+    def heed(changes: list[Change], gone: set[str]) -> None:
+        heard.append(([it.bot for it in changes], gone))
+
+    async def work(store: Store, executor: ThreadPoolExecutor) -> None:
+        source = Endless(config, store, executor, heed, time.monotonic() + 60)
+        fixture = await source.begin()
+        assert fixture is not None and heard[1:] == [(["b0", "b1", "b2"], set())]
+        (idle,) = {"b0", "b1", "b2"} - set(fixture.bots)
+        one, other = fixture.bots
+        mark(tmp_path, "remove", idle)
+        replace(tmp_path, one, "http://127.0.0.1:9/new")
+        await source.begin()
+        assert heard.pop() == ([idle, f"{one}@2"], {idle})
+        again = Endless(config, store, executor, heed, time.monotonic() + 60)
+        assert heard.pop()[1] == {idle}
+        store.add([finished(fixture.name, *fixture.bots)])
+        await again.begin()
+        assert heard.pop() == ([], {one})
+        await again.begin()
+        assert again.leaving == set() and len(heard) == 2
+
+    with closing(Store(tmp_path)) as store, ThreadPoolExecutor(1) as executor:
+        store.begin(config.identity, config.bots)
+        add_config_bots(store, config.bots)
+        asyncio.run(work(store, executor))
+
+
+LOOK = json.dumps({"apiversion": "1", "color": "#123456"}).encode()
+
+
+def test_run_keeps_nothing_of_replaced_bots(tmp_path: Path) -> None:
+    """However often a bot is replaced, there are as many descriptors, addresses and looks."""
+    answer = b"HTTP/1.1 200 OK\r\nContent-Length: %d\r\n\r\n%b" % (len(LOOK), LOOK)
+
+    async def work(store: Store) -> None:
+        server = Server(answer)
+        async with served(server.serve) as place, BotClient(0.5) as client:
+            config = ladder_config(tmp_path, {"a": f"http://{place}/a", "b": f"http://{place}/b"})
+            urls = {bot.name: bot.url for bot in config.bots}
+            context = RunContext(config, tmp_path, client, urls, {}, Watches([counts]))
+            keeper = HostKeeper(PROGRAM, BLOCKS_OF_GAME)
+            run = Run(context, store, keeper, KeptAnswers(tmp_path))
+            open_at_first = descriptors()
+            for version in range(REPLACES):
+                old, new = f"b@{version}" if version else "b", f"b@{version + 1}"
+                counts.count({old: Answer("up", None, 7)}, None)
+                change = Change(version, "replace", new, 0, f"http://{place}/{new}", old)
+                run.heed([change], {old})
+                await until(lambda: new in context.looks and not run.asking)
+            assert server.connections == REPLACES
+            assert set(context.urls) == {"a", new} and set(context.looks) == {new}
+            assert run.asked == {("a", urls["a"]), (new, urls[new])}
+            assert list(client.connections.owners) == [urls[new]]
+            await until(lambda: descriptors() <= open_at_first + 2)  # both ends of one connection
+            assert not counts.strain.latencies
+
+    counts = Counts()
+    make_folders(tmp_path)
+    with closing(Store(tmp_path)) as store:
+        asyncio.run(work(store))
+
+
+def test_few_different_times_are_counted() -> None:
+    """A time is exact below 64 ms, and rounded by less than a part in 32 above that."""
+    counts = Counts()
+    for ms in [*range(1, 600), *range(600, LONGEST_MS, 7)]:
+        assert 0 <= ms - rough(ms) <= ms / 32 and (ms >= 64 or rough(ms) == ms)
+        counts.count({"slow": Answer("up", None, ms)}, ms / 1000)
+    assert len(counts.strain.latencies["slow"][0]) < 400
+    assert len(counts.own) <= 10_000
+
+
+def test_ended_games_leave_no_bots_in_the_counts() -> None:
+    counts = Counts()
+    for at in range(50):
+        bots = (f"old{at}", f"new{at}")
+        counts.show(Fixture(f"r{at:04}-t001", at, bots), board_with())
+        counts.end(finished(f"r{at:04}-t001", *bots)[0])
+    assert not counts.strain.playing and not counts.running
+
+
+def test_few_bytes_of_transcripts_are_kept(tmp_path: Path, monkeypatch: pytest.MonkeyPatch) -> None:
+    """One alone may be longer."""
+    monkeypatch.setattr("arena_ladder.transcripts.MOST_KEPT", 1000)
+    made = Transcripts(tmp_path, PROGRAM)
+    for at, size in enumerate((400, 400, 400, 5000)):
+        made.keep(f"r{at}", b"x" * size)
+        assert sum(map(len, made.kept.values())) <= max(1000, size)
+    assert list(made.kept) == ["r3"]
+
+
+HEAPS = """
+import ctypes, threading
+from arena_ladder.heap import use_one_heap
+use_one_heap()
+both = threading.Barrier(4)
+def work():
+    kept = [b"x" * 50_000 for _ in range(20)]
+    both.wait()
+threads = [threading.Thread(target=work) for _ in range(4)]
+for thread in threads:
+    thread.start()
+for thread in threads:
+    thread.join()
+ctypes.CDLL(None).malloc_stats()
+"""
+
+
+def test_all_threads_use_one_heap() -> None:
+    """The C library counts one alone, and one for each thread without the call."""
+    for script, is_one in ((HEAPS, True), (HEAPS.replace("\nuse_one_heap()", ""), False)):
+        ran = subprocess.run([sys.executable, "-c", script], capture_output=True, text=True)
+        assert ran.returncode == 0 and (ran.stderr.count("Arena ") == 1) is is_one, ran.stderr
