@@ -62,8 +62,8 @@ class Endless:
     """The source of the games of an endless ladder.
 
     `heed` is called with the changes of the roster, and with the bots that have left it since and
-    play no more: those that left may play on in games that were drawn before. All that reads the store after the beginning
-    runs in the executor, which has one thread.
+    play no more: those that left may play on in games that were drawn before. All that reads the
+    store after the beginning runs in the executor, which has one thread.
     """
 
     def __init__(
