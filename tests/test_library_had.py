@@ -131,7 +131,7 @@ class TestRust:
     @with_cargo
     def test_cargo_test(self):
         said = ran("cargo", "test", "--offline", cwd=ROOT / "bindings/rust")
-        assert said.count("test result: ok.") == 3 and "8 passed" in said and "3 passed" in said
+        assert said.count("test result: ok.") == 3 and "9 passed" in said and "3 passed" in said
 
     @with_cargo
     def test_cargo_doc(self):

@@ -29,7 +29,7 @@ def ladder(library):
     def ground(games, number):
         own = games.map
         hazards = HazardMap(own.hazard_damage, own.shrink_every)
-        return Ground(games.width, games.height, hazards, own.seed, games._records.names[number])
+        return Ground(games.width, games.height, hazards, own.seed, games._closing.names[number])
 
     return ground
 
@@ -268,7 +268,7 @@ class TestEnvironments:
                 outside = ladder(env.games, number).outside(turns // 3)
                 assert (env.games.hazards[number] == plane_of(outside, env.games)).all()
                 closed += len(outside) > 0
-        names = set(env.games._records.names)
+        names = set(env.games._closing.names)
         assert closed > 200 and len(names) == 20 and max(map(int, names)) > 40
 
     def test_what_is_drawn(self, rules):
@@ -282,7 +282,7 @@ class TestEnvironments:
         starts, _ = layouts(rng, 11, 11, 2, "standard")
         heads = starts[rng.integers(0, 1024, 4096)[:6]]
         assert (env.games.heads == heads).all()
-        assert env.games._records.names == ["0", "1", "2", "3", "4", "5"]
+        assert env.games._closing.names == ["0", "1", "2", "3", "4", "5"]
 
     def test_seeds(self, rules):
         one, other = (rules.VectorEnv(8, map=rules.Royale(2), width=7, height=7) for _ in "ab")
@@ -294,7 +294,7 @@ class TestEnvironments:
             moves = careful(one.games, rng)
             first, again = one.step(moves)[0], other.step(moves)[0]
         assert first[:, -1].any() and one.reset(seed=SEED)[0][:, :-1].any()
-        assert one.games._records.names == [str(it) for it in range(8)]
+        assert one.games._closing.names == [str(it) for it in range(8)]
 
     def test_few_planes(self, rules):
         few = rules.VectorEnv(2, seed=1, seats=2, map=rules.Royale(1), scalars=False)

@@ -110,8 +110,13 @@ static void step_all(arena_small_game *small) {
     uint32_t running = count;
     for (uint32_t turn = 0; turn < MOST_TURNS; turn++) {
         while (running && games[running - 1].turns <= turn) running--;
-        arena_many_orders orders = {all_moves + 4 * turn * count, 4 * running, 4,
-                                    all_words + 2 * turn * count, 2 * running, 2};
+        arena_many_orders orders = {all_moves + 4 * turn * count,
+                                    4 * running,
+                                    4,
+                                    all_words + 2 * turn * count,
+                                    2 * running,
+                                    2,
+                                    ARENA_NO_HAZARDS};
         arena_small_step(small, running, &orders);
     }
 }
@@ -251,7 +256,7 @@ static void *work(void *at) {
                 memcpy(words + 2 * i, games[number].words[turn[i]], 8);
                 turn[i]++;
             }
-            arena_many_orders orders = {moves, 4 * SHARE, 4, words, 2 * SHARE, 2};
+            arena_many_orders orders = {moves, 4 * SHARE, 4, words, 2 * SHARE, 2, ARENA_NO_HAZARDS};
             arena_small_step(small, SHARE, &orders);
             own->turns += SHARE;
         }

@@ -47,13 +47,15 @@ static void draw(int game, int is_over, int side) {
         memset(games, 0, sizeof games);                                                            \
         for (long step = 0; step < steps; step++) {                                                \
             for (int i = 0; i < GAMES; i++) draw(i, !step || games[0][i].head.over, side);         \
-            arena_many_orders orders = {moves, sizeof moves, SEATS, words, GAMES * 2, 2};          \
+            arena_many_orders orders = {moves, sizeof moves,    SEATS, words, GAMES * 2,           \
+                                        2,     ARENA_NO_HAZARDS};                                  \
             arena_many_starts all = {                                                              \
                 starts, GAMES * SEATS, food, GAMES, 1, which, GAMES, settings};                    \
             size_t began = arena_##size##_advance(games[0], GAMES, &orders, &all, planes[0],       \
                                                   sizeof planes[0], each);                         \
             for (int i = 0; i < GAMES; i++) {                                                      \
-                arena_many_orders own = {moves + i * SEATS, SEATS, SEATS, words + 2 * i, 2, 2};    \
+                arena_many_orders own = {moves + i * SEATS, SEATS, SEATS, words + 2 * i, 2, 2,     \
+                                         ARENA_NO_HAZARDS};                                        \
                 arena_many_starts one = {starts + i * SEATS, SEATS, food + i, 1, 1,                \
                                          which + i,          1,     settings};                     \
                 if (which[i] == 0) arena_##size##_step(&games[1][i], 1, &own), played++;           \

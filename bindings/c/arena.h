@@ -196,23 +196,55 @@ uint8_t arena_turn(const uint8_t *record, size_t record_len, const arena_seat_or
                    uint8_t *into, size_t room, size_t *length);
 
 /* The orders of many games: game i has the i-th `moves_each` bytes and the i-th `words_each` words.
- * A game for which a list is too short has none. */
+ * A game for which a list is too short has none. Games on a map have hazards beside them: a byte
+ * for each cell, row by row from the bottom, that says how often the cell is a hazard, game i the
+ * i-th `hazards_each` bytes, and the health that each costs, 0 to 100, a byte for each game. They
+ * are those of the board before the turn. arena_turns does not read them: a record has its own. */
 typedef struct {
     const uint8_t *moves;
     size_t moves_len, moves_each;
     const uint32_t *words;
     size_t words_len, words_each;
+    const uint8_t *hazards;
+    size_t hazards_len, hazards_each;
+    const uint8_t *damages;
+    size_t damages_len;
 } arena_many_orders;
 
-/* The orders of `count` games, each of `moves_each` moves and `words_each` words. A list may be
- * null with no entries. */
+/* The last five fields of orders without hazards. */
+#define ARENA_NO_HAZARDS (const uint8_t *)ARENA_NONE, 0, 0, (const uint8_t *)ARENA_NONE, 0
+
+/* The orders of `count` games, each of `moves_each` moves and `words_each` words, without hazards.
+ * A list may be null with no entries. */
 static inline arena_many_orders arena_orders_of(size_t count, const uint8_t *moves,
                                                 size_t moves_each, const uint32_t *words,
                                                 size_t words_each) {
-    arena_many_orders orders = {
-        (const uint8_t *)arena_list(moves),  count * moves_each, moves_each,
-        (const uint32_t *)arena_list(words), count * words_each, words_each};
+    arena_many_orders orders = {(const uint8_t *)arena_list(moves),
+                                count * moves_each,
+                                moves_each,
+                                (const uint32_t *)arena_list(words),
+                                count * words_each,
+                                words_each,
+                                ARENA_NO_HAZARDS};
     return orders;
+}
+
+/* The same orders of `count` games on a map: `cells` bytes of hazards and a damage for each. */
+static inline arena_many_orders arena_among_hazards(arena_many_orders orders, size_t count,
+                                                    const uint8_t *hazards, size_t cells,
+                                                    const uint8_t *damages) {
+    arena_many_orders among = {orders.moves,
+                               orders.moves_len,
+                               orders.moves_each,
+                               orders.words,
+                               orders.words_len,
+                               orders.words_each,
+                               (const uint8_t *)arena_list(hazards),
+                               count * cells,
+                               cells,
+                               (const uint8_t *)arena_list(damages),
+                               count};
+    return among;
 }
 
 /* Plays a turn of many records. Record i lies at the start of the i-th slot: the slots share
@@ -294,7 +326,8 @@ static inline arena_many_starts arena_starts_of(size_t count, arena_settings set
  * arena_small_start starts each game whose byte of `which` is not 0, and returns how many started.
  * One whose settings or cells are not those of a first board is over, with no living snake.
  *
- * arena_small_step plays a turn in each game that is not over and is below turn 10,000.
+ * arena_small_step plays a turn in each game that is not over and is below turn 10,000. Whoever
+ * plays a map changes its hazards between turns: a game has no room for them.
  *
  * arena_small_planes writes the planes of game i into the i-th `each` bytes. A plane has width *
  * height bytes, row by row from the bottom. The first has 1 where food is. Then come those of the

@@ -90,7 +90,11 @@ int main(int count, char **words_) {
         for (int k = 0; k < 64; k++)
             if (drawn() % 8) cells[k].x %= 25, cells[k].y %= 25;
         size_t each = drawn() % 4 ? drawn() % 9 : (size_t)drawn() << 34;
-        arena_many_orders orders = {moves, drawn() % 41, each, words, drawn() % 161, drawn() % 41};
+        uint8_t hazards[1400];
+        fill(hazards, sizeof hazards);
+        arena_many_orders orders = {moves,         drawn() % 41, each,        words,
+                                    drawn() % 161, drawn() % 41, hazards,     drawn() % 1401,
+                                    drawn() % 700, moves,        drawn() % 41};
         arena_many_starts starts = {cells, drawn() % 33, cells + 32, drawn() % 33,
                                     each,  moves,        4,          {0, 0, 0, 0, 0, 0}};
         fill(&starts.settings, sizeof starts.settings);

@@ -61,7 +61,7 @@ static uint8_t turn(outcome *to) {
 static uint8_t turns(outcome *to) {
     static const uint8_t moves[2] = {0, 2};
     static const uint32_t words[3] = {1, 2, 3};
-    arena_many_orders orders = {moves, 2, 2, words, 3, 3};
+    arena_many_orders orders = {moves, 2, 2, words, 3, 3, ARENA_NO_HAZARDS};
     uint8_t status;
     if (to->length == 0) {
         memcpy(to->record, first, first_length);

@@ -100,8 +100,8 @@ static void start(boards *b, const setup *s) {
 /* The same moves and words for `copies` games. */
 static arena_many_orders orders_of(const setup *s, const uint8_t *moves, const uint32_t *words,
                                    size_t copies) {
-    arena_many_orders orders = {moves, s->seats * copies, s->seats,
-                                words, s->words * copies, s->words};
+    arena_many_orders orders = {moves,    s->seats * copies, s->seats, words, s->words * copies,
+                                s->words, ARENA_NO_HAZARDS};
     return orders;
 }
 

@@ -54,8 +54,7 @@ class Rooms:
 class OnePass:
     """A turn of all games, starts of some and all planes, over buffers that stay where they are.
 
-    It is one call of the library for each range of games, where the library has that call; games
-    on a map are played by the calls on records.
+    It is one call of the library for each range of games, where the library has that call.
     """
 
     def __init__(
@@ -67,8 +66,7 @@ class OnePass:
     ) -> None:
         self.games, self.lists = games, (moves, words, *firsts)
         self._lent = [lent(it) for it in self.lists]
-        call: Any = getattr(library, games._prefix + "advance", None)
-        self._call = call if games.map is None else None
+        self._call: Any = getattr(library, games._prefix + "advance", None)
         self._whole = self._range(0, games.count)
         self._ranges = {low: self._range(low, count) for low, count in games._ranges}
 
@@ -86,6 +84,7 @@ class OnePass:
             words.at + 4 * low * drawn,
             count * drawn,
             drawn,
+            **self.games._beside(low, count),
         )
 
     def _firsts_of(self, low: int, count: int) -> ManyStarts:
@@ -107,6 +106,17 @@ class OnePass:
         if self._call is None:
             self._run_by_steps(planes)
             return
+        closing, which = self.games._closing, self.lists[4]
+        if closing is None:
+            self._run_in_one(planes)
+            return
+        playing = closing.playing() & ~which
+        self._run_in_one(planes)
+        closing.close(playing)
+        if np.count_nonzero(which):
+            closing.begin(which)
+
+    def _run_in_one(self, planes: np.ndarray | None) -> None:
         games, at, each, size = self.games, NOTHING.at, 1, 0
         if planes is not None:
             each = size = planes.size // games.count
@@ -176,8 +186,8 @@ class Core:
         games = self.games
         self.rng, self._word_blocks = rng, iter(())
         self._numbers, self._next = np.zeros(0, "i8"), 0
-        if games._records is not None:
-            games._records.reseed(int(rng.integers(0, 1 << 63)))
+        if games._closing is not None:
+            games._closing.reseed(int(rng.integers(0, 1 << 63)))
         self._layouts = layouts(rng, games.width, games.height, games.seats, games.mode)
         starts, food = self._layouts
         self._starts = np.zeros((self.count, *starts.shape[1:]), "u1")

@@ -33,7 +33,7 @@ from arena_rules.library import (
     library,
     mode_number,
 )
-from arena_rules.royale import Records, Royale, map_of
+from arena_rules.royale import Closing, Royale, map_of
 
 MOST_BYTES = 20_000  # more than the record of any game in memory has
 MOST_GAMES = 1 << 24
@@ -59,9 +59,8 @@ class Games:
     the interpreter's lock, and cuts the games into as many ranges as there are threads; `close`
     ends these.
 
-    With `map="royale"`, or a `Royale`, hazards close in, and the games are played by the calls on
-    records: slower, see docs/SIMULATOR.md. `hazards` has the hazards, and `memory` and `states`
-    show the boards without them; what is written there is not played.
+    With `map="royale"`, or a `Royale`, hazards close in. `hazards` has them: they lie beside the
+    games, since `memory` and `states` have no room for them.
 
     Of a board in memory, a byte of `plane` counts the parts of living snakes on its cell, and has
     128 more where food is. The bytes around the board mean nothing: whether a cell is on the board
@@ -98,7 +97,19 @@ class Games:
         self._prefix = f"arena_{'small' if small else 'large'}_"
         self._find_calls()
         settings = map_of(map)
-        self._records = None if settings is None else Records(self, settings)
+        self._closing = None if settings is None else Closing(self, settings)
+        self._lay_beside()
+
+    def _lay_beside(self) -> None:
+        """Orders of all games, with the hazards that lie beside them."""
+        self._orders = ManyOrders(moves_each=self.seats, **self._beside(0, self.count))
+        self._orders_at = byref(self._orders)
+
+    def _beside(self, low: int, games: int) -> dict[str, int]:
+        """The fields of the orders of a range of games that have the hazards."""
+        if self._closing is None:
+            return {"hazards": NOTHING.at, "damages": NOTHING.at}
+        return self._closing.beside(low, games)
 
     def _find_calls(self) -> None:
         """What is not copied with the games: calls, views, threads."""
@@ -111,8 +122,6 @@ class Games:
         edges = [self.count * k // threads for k in range(threads + 1)]
         self._ranges = [(low, high - low) for low, high in zip(edges, edges[1:])]
         self._move_shapes = ((self.count, self.seats), (self.count * self.seats,))
-        self._orders = ManyOrders(moves_each=self.seats)
-        self._orders_at = byref(self._orders)
         self._address = addressof(self.memory) if self.count else addressof(EMPTY)
 
     def __repr__(self) -> str:
@@ -132,7 +141,7 @@ class Games:
             "_game": self._game,
             "settings": bytes(self.settings),
             "memory": bytes(self.memory),
-            "_records": None if self._records is None else self._records.kept(),
+            "_closing": None if self._closing is None else self._closing.kept(),
         }
 
     def __setstate__(self, state: dict[str, Any]) -> None:
@@ -140,10 +149,11 @@ class Games:
         self.settings = Settings.from_buffer_copy(state["settings"])
         self.memory = (self._game * self.count).from_buffer_copy(state["memory"])
         self._find_calls()
-        kept = state["_records"]
+        kept = state["_closing"]
         if kept is not None:
-            self._records = Records(self, kept["settings"])
-            self._records.restore(kept)
+            self._closing = Closing(self, kept["settings"])
+            self._closing.restore(kept)
+        self._lay_beside()
 
     def copy(self) -> "Games":
         """The same games in memory of their own."""
@@ -225,8 +235,9 @@ class Games:
             return call(self._at(low), games, byref(first))
 
         started = sum(self._each(one))
-        if self._records is not None:
-            self._records.start(cells, fed, each, marks)
+        if self._closing is not None:
+            marked = numpy.frombuffer(ctypes.string_at(marks.at, marks.entries), "u1")
+            self._closing.begin(marked)
         return started
 
     def _marks(self, which: Any) -> Lent:
@@ -252,9 +263,12 @@ class Games:
 
     def _play(self, turns: Lent, drawn: Lent, each: int) -> None:
         """A turn by lists that were checked; `turns` and `drawn` keep them alive."""
-        if self._records is not None:
-            self._records.play(turns, drawn, each)
-            return
+        playing = None if self._closing is None else self._closing.playing()
+        self._play_all(turns, drawn, each)
+        if self._closing is not None:
+            self._closing.close(playing)
+
+    def _play_all(self, turns: Lent, drawn: Lent, each: int) -> None:
         if self._pool is None:
             orders = self._orders
             orders.moves, orders.moves_len = turns.at, turns.entries
@@ -270,6 +284,7 @@ class Games:
                 drawn.at + 4 * low * each,
                 games * each,
                 each,
+                **self._beside(low, games),
             )
             self._step(self._at(low), games, byref(orders))
 
@@ -300,16 +315,16 @@ class Games:
     @property
     def map(self) -> Royale | None:
         """The settings of the map royale; None on the standard map."""
-        return None if self._records is None else self._records.settings
+        return None if self._closing is None else self._closing.settings
 
     @property
     def hazards(self) -> Any:
         """1 on each cell with a hazard, (count, height, width), row by row from the bottom; a view
         of what is there now. All 0 on the standard map."""
-        if self._records is None:
+        if self._closing is None:
             self._seats_of("cause")
             return numpy.zeros((self.count, self.height, self.width), "u1")
-        view = self._records.hazards.view()
+        view = self._closing.hazards.view()
         view.flags.writeable = False
         return view
 
@@ -385,15 +400,13 @@ class Games:
     def record(self, game: int) -> bytes:
         """The record of a game's board. Its snakes have the ids "0" to "7".
 
-        b"" for a game that was neither started nor loaded. On the map royale it has the hazards,
-        and the ids of the record that was loaded.
+        b"" for a game that was neither started nor loaded. On the map royale it has the hazards.
         """
         game = position("game", game, self.count)
-        if self._records is not None:
-            return self._records.record(game)
         into = ctypes.create_string_buffer(MOST_BYTES)
         call = getattr(library, self._prefix + "save")
-        return ctypes.string_at(into, call(byref(self.memory[game]), into, MOST_BYTES))
+        plain = ctypes.string_at(into, call(byref(self.memory[game]), into, MOST_BYTES))
+        return plain if self._closing is None else self._closing.record(game, plain)
 
     def load(self, game: int, record: bytes) -> None:
         """Makes the game of a record, whose ids are not kept; after a fault it is as it was.
@@ -407,8 +420,8 @@ class Games:
             if not isinstance(record, (bytearray, memoryview)):
                 raise TypeError(f"record is of the type {type(record).__name__}, and may be bytes")
             record = bytes(record)
-        if self._records is not None:
-            self.memory[game] = self._records.load(game, record)
+        if self._closing is not None:
+            self.memory[game] = self._closing.load(game, record)
             return
         loaded = self._game()
         check(self._load(byref(loaded), record, len(record)))

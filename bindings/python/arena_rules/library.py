@@ -137,6 +137,9 @@ class ManyOrders(Structure):
         ("moves_each", c_size_t),
         *_slice("words"),
         ("words_each", c_size_t),
+        *_slice("hazards"),
+        ("hazards_each", c_size_t),
+        *_slice("damages"),
     ]
 
 

@@ -1,6 +1,6 @@
 //! One step of many environments.
 
-use crate::games::{check, each_of, Game, RawOrders, RawStarts};
+use crate::games::{check, each_of, Game, Hazards, RawOrders, RawStarts};
 use crate::raw::{Cell, List, ManyOrders, ManyStarts, Settings};
 use crate::words::Fault;
 
@@ -30,6 +30,8 @@ pub struct Advance<'a> {
     pub cells: &'a [Cell],
     /// Cells with food; read of games that start.
     pub food: &'a [Cell],
+    /// The hazards before the turn, of games that play.
+    pub hazards: Hazards<'a>,
 }
 
 /// Plays a turn of some games, starts others, and writes the planes of both, in one pass. Returns
@@ -45,7 +47,7 @@ pub struct Advance<'a> {
 /// act:
 ///
 /// ```
-/// use arena_rules::{advance, Act, Advance, Cell, Games, Settings, SmallGame};
+/// use arena_rules::{advance, Act, Advance, Cell, Games, Hazards, Settings, SmallGame};
 ///
 /// let (count, seats) = (2, 2);
 /// let settings = Settings { seats: 2, ..Settings::default() };
@@ -58,6 +60,7 @@ pub struct Advance<'a> {
 ///     // Both snakes of the first game go left; those of the second meet in the middle.
 ///     let one = Advance {
 ///         acts: &acts, moves: &[2, 2, 3, 2], words: &[], cells: &cells, food: &[],
+///         hazards: Hazards::default(),
 ///     };
 ///     begun += advance(games.as_mut_slice(), settings, &one, &mut planes)?;
 ///     for (act, game) in acts.iter_mut().zip(games.as_slice()) {
@@ -78,11 +81,15 @@ pub fn advance<G: Game>(
     check("acts", step.acts.len(), count)?;
     check("moves", step.moves.len(), count * seats)?;
     check("cells", step.cells.len(), count * seats)?;
+    let (hazards, hazards_each, damages) = step.hazards.lists(count)?;
     let orders = RawOrders(ManyOrders {
         moves: List::new(step.moves),
         moves_each: seats,
         words: List::new(step.words),
         words_each: each_of("words", step.words.len(), count)?,
+        hazards,
+        hazards_each,
+        damages,
     });
     // SAFETY: an Act is a byte.
     let which = unsafe { std::slice::from_raw_parts(step.acts.as_ptr().cast::<u8>(), count) };

@@ -243,15 +243,52 @@ pub fn start<G: Game>(
 /// down, left and right, else straight on. `words` has as many for each game; without them no food
 /// appears. [`Fault::Length`] if a list does not fit.
 pub fn step<G: Game>(games: &mut [G], moves: &[u8], words: &[u32]) -> Result<(), Fault> {
+    step_among(games, moves, words, Hazards::default())
+}
+
+/// The hazards of games on a map, which lie beside them; none by default.
+#[derive(Clone, Copy, Default)]
+pub struct Hazards<'a> {
+    /// How often each cell of each game is a hazard, row by row from the bottom.
+    pub counts: &'a [u8],
+    /// A byte for each game: the health that each costs, 0 to 100.
+    pub damages: &'a [u8],
+}
+
+impl<'a> Hazards<'a> {
+    /// The fields of the orders: the counts, their number for each game, and the damages.
+    pub(crate) fn lists(self, count: usize) -> Result<(List<'a, u8>, usize, List<'a, u8>), Fault> {
+        let each = each_of("counts", self.counts.len(), count)?;
+        if each > 0 {
+            check("damages", self.damages.len(), count)?;
+        }
+        Ok((List::new(self.counts), each, List::new(self.damages)))
+    }
+}
+
+/// Plays a turn as [`step`] does, in games with hazards.
+///
+/// The hazards are those of the boards before the turn; what they are next is the map's affair.
+/// Each game has as many cells. [`Fault::Length`] if a list does not fit.
+pub fn step_among<G: Game>(
+    games: &mut [G],
+    moves: &[u8],
+    words: &[u32],
+    hazards: Hazards<'_>,
+) -> Result<(), Fault> {
     let count = games.len();
     let seats = games.iter().map(|game| game.head().settings.seats).max();
     let moves_each = usize::from(seats.unwrap_or(0));
     check("moves", moves.len(), count * moves_each)?;
+    let (hazards, hazards_each, damages) = hazards.lists(count)?;
     let raw = RawOrders(ManyOrders {
         moves: List::new(moves),
         moves_each,
         words: List::new(words),
         words_each: each_of("words", words.len(), count)?,
+        hazards,
+        hazards_each,
+        damages,
     });
     G::raw_step(games, &raw);
     Ok(())

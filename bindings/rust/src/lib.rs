@@ -25,7 +25,7 @@ mod records;
 mod words;
 
 pub use advance::{advance, Act, Advance};
-pub use games::{planes, start as start_games, step, Game, Games, Starts};
+pub use games::{planes, start as start_games, step, step_among, Game, Games, Hazards, Starts};
 pub use layout::check_layout;
 pub use raw::{Cell, Head, LargeGame, Place, Seat, Settings, SmallGame};
 pub use records::{is_legal, is_over, start, turn, turn_into, Map, Setup};

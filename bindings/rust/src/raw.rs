@@ -158,6 +158,9 @@ pub(crate) struct ManyOrders<'a> {
     pub(crate) moves_each: usize,
     pub(crate) words: List<'a, u32>,
     pub(crate) words_each: usize,
+    pub(crate) hazards: List<'a, u8>,
+    pub(crate) hazards_each: usize,
+    pub(crate) damages: List<'a, u8>,
 }
 
 #[repr(C)]

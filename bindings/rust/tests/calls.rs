@@ -159,6 +159,7 @@ fn an_advance_is_turns_starts_and_planes() {
             words: &by.words,
             cells: &by.cells,
             food: &[],
+            hazards: Hazards::default(),
         };
         let count = advance(games.as_mut_slice(), settings(), &one, &mut seen).unwrap();
         assert_eq!(
@@ -186,6 +187,7 @@ fn an_advance_that_does_not_fit_is_refused() {
         words: &[],
         cells: &STARTS.repeat(2),
         food: &[],
+        hazards: Hazards::default(),
     };
     let mut into = vec![0; 726];
     let mut said = |one: &Advance<'_>, room: usize| {
@@ -218,11 +220,48 @@ fn an_advance_that_does_not_fit_is_refused() {
         ..all
     };
     assert_eq!(said(&food, 726), refused("food", 1, 2));
+    let hazards = Advance {
+        hazards: Hazards {
+            counts: &[0; 242],
+            damages: &[14],
+        },
+        ..all
+    };
+    assert_eq!(said(&hazards, 726), refused("damages", 1, 2));
     assert_eq!(said(&all, 725), refused("into", 725, 2));
     assert_eq!(said(&all, 724), refused("into", 724, 726));
     assert_eq!(said(&all, 0), (Ok(0), 1));
     assert_eq!(said(&all, 726), (Ok(0), 2));
     assert_eq!(into[121 + 5 * 11 + 3], 3);
+}
+
+/// A head on two hazards and on no food loses twice the damage besides: docs/RULES.md. In the
+/// second game the damage is all that is left, and the snake is out by a hazard.
+#[test]
+fn a_step_among_hazards_hurts() {
+    let mut games = started(2);
+    let mut counts = vec![0; 242];
+    counts[5 * 11 + 2] = 2;
+    counts[121 + 5 * 11 + 2] = 1;
+    let damages = [20, 99];
+    let hazards = Hazards {
+        counts: &counts,
+        damages: &damages,
+    };
+    step_among(games.as_mut_slice(), &[3, 2, 3, 2], &[], hazards).unwrap();
+    let seats = |game: usize| games.as_slice()[game].head.seats;
+    assert_eq!([seats(0)[0].health, seats(0)[1].health], [59, 99]);
+    assert_eq!(
+        (seats(1)[0].health, seats(1)[0].cause()),
+        (0, Some(Cause::Hazard))
+    );
+    assert_eq!((seats(1)[1].health, games.as_slice()[1].head.over), (99, 1));
+    let short = Hazards {
+        counts: &counts[1..],
+        damages: &damages,
+    };
+    let answer = step_among(games.as_mut_slice(), &[3, 2, 3, 2], &[], short);
+    assert_eq!(answer, length("counts", 241, 2));
 }
 
 #[test]

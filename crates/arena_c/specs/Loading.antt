@@ -1,5 +1,5 @@
 -- What a call that makes a game of a record says.
-use Rattle.std.specs.Prelude.{◌≡◌, ◌⊎◌, ℕ, List, is_none, true}
+use Rattle.std.specs.Prelude.{◌≡◌, ◌⊎◌, ℕ, List, is_none, None, true}
 use Rattle.bs_board.specs.declared.boards.board.Board.{Board}
 use Rattle.bs_batch.specs.declared.layout.Head.{Head}
 use Rattle.bs_batch.specs.Lasting.{IsLasting}
@@ -13,6 +13,7 @@ pub record IsInGame (fits : Board → Type 0) (bytes : List ℕ) (head : Head) (
   pub record_is : IsRecordOf bytes b
   pub fitting : fits b
   pub shows : ShowsGame head food plane bodies b
+  pub plain : b.hazards ≡ None
   pub lasts : IsLasting b
 
 -- the record of a board that has hazards or does not fit: the game is over, without a snake

@@ -1,6 +1,6 @@
 //! Large games of the caller, on boards of at most 25 by 25 cells.
 
-ghost use Rattle.std.specs.Prelude.{◌≡◌, ℕ, ◌<◌, length, slice_index_or};
+ghost use Rattle.std.specs.Prelude.{◌≡◌, ℕ, ◌<◌, length, slice_index, slice_index_or};
 ghost use Rattle.arena_c.specs.Loading.{IsLoadStatus};
 ghost use Rattle.bs_batch.specs.Advancing.{AdvancesLarge, ShowsAdvanced};
 ghost use Rattle.bs_batch.specs.declared.layout.LargeGame.{LargeGame as AnyGame};
@@ -32,7 +32,8 @@ pub extern "C" fn arena_large_start(games: &mut [LargeGame], starts: &ManyStarts
 #[unsafe(no_mangle)]
 pub extern "C" fn arena_large_step(games: &mut [LargeGame], orders: &ManyOrders<'_>)
     ensures games { (i : ℕ) (d : AnyGame) → i < length games.old
-        → StepsLarge (piece_of orders.now.moves.now i orders.now.moves_each) (words_of orders.now.words.now i orders.now.words_each) (slice_index_or games.old i d) (slice_index_or games.new i d) }
+        → StepsLarge (piece_of orders.now.moves.now i orders.now.moves_each) (words_of orders.now.words.now i orders.now.words_each)
+        (piece_of orders.now.hazards.now i orders.now.hazards_each) (slice_index orders.now.damages.now i) (slice_index_or games.old i d) (slice_index_or games.new i d) }
 {
     step_large(games, orders);
 }

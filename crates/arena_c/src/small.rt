@@ -1,6 +1,6 @@
 //! Small games of the caller, on boards of at most 11 by 11 cells.
 
-ghost use Rattle.std.specs.Prelude.{◌≡◌, ℕ, ◌<◌, length, slice_index_or};
+ghost use Rattle.std.specs.Prelude.{◌≡◌, ℕ, ◌<◌, length, slice_index, slice_index_or};
 ghost use Rattle.arena_c.specs.Loading.{IsLoadStatus};
 ghost use Rattle.bs_batch.specs.Advancing.{AdvancesSmall, ShowsAdvanced};
 ghost use Rattle.bs_batch.specs.declared.layout.SmallGame.{SmallGame as AnyGame};
@@ -32,7 +32,8 @@ pub extern "C" fn arena_small_start(games: &mut [SmallGame], starts: &ManyStarts
 #[unsafe(no_mangle)]
 pub extern "C" fn arena_small_step(games: &mut [SmallGame], orders: &ManyOrders<'_>)
     ensures games { (i : ℕ) (d : AnyGame) → i < length games.old
-        → StepsSmall (piece_of orders.now.moves.now i orders.now.moves_each) (words_of orders.now.words.now i orders.now.words_each) (slice_index_or games.old i d) (slice_index_or games.new i d) }
+        → StepsSmall (piece_of orders.now.moves.now i orders.now.moves_each) (words_of orders.now.words.now i orders.now.words_each)
+        (piece_of orders.now.hazards.now i orders.now.hazards_each) (slice_index orders.now.damages.now i) (slice_index_or games.old i d) (slice_index_or games.new i d) }
 {
     step_small(games, orders);
 }

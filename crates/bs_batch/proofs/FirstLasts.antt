@@ -26,9 +26,8 @@ three_parts width height c =
 
 pub first_lasts : FirstLaw
 unfolding first_board
-first_lasts s fits plain = record {
+first_lasts s fits = record {
   legal = first_board_is_legal s fits;
-  plain = plain;
   bodies = λ k d within.
       let n = length-map s.snakes first_snake in
       rw (get_or-map first_snake s.snakes k ([], origin) d (omega arith)) (λ _. three_parts s.width s.height (get_or s.snakes k ([], origin)).1);

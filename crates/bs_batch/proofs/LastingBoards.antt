@@ -105,7 +105,7 @@ one_more_part body p some =
     let one = one_at_most (is_same_cell p last) in
     omega arith
 
-none_elsewhere : (width height : ℕ) (p : Point) (body : List Point) → is_on_board width height p ≡ false → All (λ q. is_on_board width height q ≡ true) body
+pub none_elsewhere : (width height : ℕ) (p : Point) (body : List Point) → is_on_board width height p ≡ false → All (λ q. is_on_board width height q ≡ true) body
     → count_by (is_same_cell p) body ≡ 0
 none_elsewhere width height p [] off on = refl
 none_elsewhere width height p (q ∷ body) off on =
@@ -168,23 +168,23 @@ module _ (b : Board) (lasting : IsLasting b) (early : b.turn < 10000) where
         omega arith
 
     -- after the motion and a meal there is still room
-    pub can_grow : (moves bodies' : List ℕ) → length bodies' ≡ length bodies → (seat : ℕ) → CanGrowAt bodies' (left moves b) seat
-    can_grow moves bodies' same seat = record {
+    pub can_grow : (moves counts : List ℕ) (damage : ℕ) (bodies' : List ℕ) → length bodies' ≡ length bodies → (seat : ℕ) → CanGrowAt bodies' (left moves counts damage b) seat
+    can_grow moves counts damage bodies' same seat = record {
       small = let small = lists.small in omega arith;
       short = λ alive.
-          let n = length_left moves b in
-          let inside = seat_of_living (left moves b).snakes seat alive in
+          let n = length_left moves counts damage b in
+          let inside = seat_of_living (left moves counts damage b).snakes seat alive in
           let within : seat < length b.snakes = omega arith in
           let s = snake_at b.snakes seat in
-          let goes = (survivors moves b seat nobody within).goes in
+          let goes = (survivors moves counts damage b seat nobody within).goes in
           let long = (lasting.legal.snakes seat nobody within).body.long in
           let short = short_in_lists seat within (goes.before alive) in
-          let more = advanced_length s.body goes.head (snake_at (left moves b).snakes seat).body (omega arith) (goes.body alive) in
+          let more = advanced_length s.body goes.head (snake_at (left moves counts damage b).snakes seat).body (omega arith) (goes.body alive) in
           rw same (omega arith);
     }
 
-    pub can_spawn : (moves food' : List ℕ) → length food' ≡ length food → CanSpawn food' (left moves b)
-    can_spawn moves food' same =
+    pub can_spawn : (moves counts : List ℕ) (damage : ℕ) (food' : List ℕ) → length food' ≡ length food → CanSpawn food' (left moves counts damage b)
+    can_spawn moves counts damage food' same =
         let high = sides b.height lasting.legal.limits.height in
         record {
           low = high.1;

@@ -22,6 +22,8 @@ pub mod FoodPlaced
 pub mod FreeRows
 pub mod Grown
 pub mod GrownAll
+pub mod Hurt
+pub mod HurtFed
 pub mod Judged
 pub mod JudgedRoom
 pub mod LastingBoards

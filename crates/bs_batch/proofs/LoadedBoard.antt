@@ -59,7 +59,7 @@ seat_of_killer BodyCollision seats seat (Some k) few within is = let l = is.0 in
 seat_of_killer HeadCollision seats seat (Some k) few within is = let l = is.0 in omega arith
 seat_of_killer Hazard seats seat (Some k) few within is = absurd cc
 
-killer_of_legal : (b : Board) (seat : ℕ) (s : Snake) (cause : Option Cause) → length b.snakes ≤ 8 → seat < length b.snakes
+pub killer_of_legal : (b : Board) (seat : ℕ) (s : Snake) (cause : Option Cause) → length b.snakes ≤ 8 → seat < length b.snakes
     → MatchOption cause (IsLegalLiving b s) (IsLegalOut b seat s) → IsSeatOfEight s.killer
 killer_of_legal b seat s None few within state = rw state.killer tt
 killer_of_legal b seat s (Some cause) few within state = seat_of_killer cause (length b.snakes) seat s.killer few within state.killer

@@ -1,6 +1,6 @@
 -- The bytes of a record, written one after the other.
-use Rattle.std.proofs.Common.{◌≡◌, ℕ, ℤ, ◌+◌, ◌/◌, ◌%◌, ◌<◌, ◌≤◌, min, true, false, List, [], ◌∷◌, ◌++◌, length, take, get_or, Option, Some, None, pos, nat_abs, ◌+ℤ◌, refl, subst, sym, ap, ◌∙◌, arith, inl, inr, append_assoc}
-use Rattle.std.specs.Prelude.{int_le, int_lt, is_some}
+use Rattle.std.proofs.Common.{◌≡◌, ℕ, ℤ, ◌+◌, ◌/◌, ◌%◌, ◌<◌, ◌≤◌, min, true, List, [], ◌∷◌, ◌++◌, length, take, get_or, Option, Some, None, pos, nat_abs, ◌+ℤ◌, refl, subst, sym, ap, ◌∙◌, arith, inl, inr, append_assoc}
+use Rattle.std.specs.Prelude.{int_le, int_lt}
 use Rattle.std.specs.List.{flat_map, list_all}
 use Rattle.std.proofs.lemmas.Bool.{and_parts}
 use Rattle.std.proofs.lemmas.Int.{ints}
@@ -10,24 +10,24 @@ use Rattle.std.proofs.lemmas.List.Elements.{All-get_or}
 use Rattle.std.proofs.lemmas.List.Sums.{AllPass-from_list_all}
 use Rattle.bs_board.specs.declared.boards.board.Board.{Board}
 use Rattle.bs_board.specs.declared.boards.board.Mode.{Mode}
-use Rattle.bs_board.specs.declared.boards.hazards.Hazards.{Hazards}
 use Rattle.bs_board.specs.declared.boards.point.Point.{Point}
 use Rattle.bs_board.specs.declared.boards.snake.Snake.{Snake}
 use Rattle.bs_board.specs.boards.Cell.{are_distinct_cells, is_on_board, origin}
 use Rattle.bs_board.specs.boards.Legal.{is_near}
 use Rattle.bs_board.specs.records.Record.{cell_bytes, hazard_bytes, head_bytes, killer_byte, mode_byte, plain_version, record_of, snake_record, state_bytes}
+use Rattle.bs_board.proofs.records.Lengths.{length_of_record}
 use Rattle.bs_board.proofs.records.Longest.{legal_size, side_fits}
 use Rattle.bs_rules.specs.Collision.{nobody, snake_at}
 use Rattle.bs_rules.proofs.Movable.{four_parts, near_from_on_board}
 use Rattle.bs_batch.specs.declared.layout.Head.{Head}
 use Rattle.bs_batch.specs.declared.layout.Seat.{Seat}
 use Rattle.bs_batch.specs.Numbers.{number_of, numbers_of}
-use Rattle.bs_batch.specs.Saving.{IsSavedAs, SavesGame}
+use Rattle.bs_batch.specs.Saving.{IsSavedAs, SavesGame, without_hazards}
 use Rattle.bs_batch.specs.Shown.{ShowsSnake, room_of, seat_at, seat_byte}
-use Rattle.bs_batch.specs.inner.Loading.{CanLoad, IsSeatOfEight}
+use Rattle.bs_batch.specs.inner.Loading.{AreNear, IsSeatOfEight}
 use Rattle.bs_batch.specs.inner.Saving.{AreWritable, IsWritten, WritesBytes, WritesCells, WritesHead, WritesSeat, WritesSnake}
 use Rattle.bs_batch.proofs.Listed.{food_shown}
-use Rattle.bs_batch.proofs.LoadedBoard.{can_load}
+use Rattle.bs_batch.proofs.LoadedBoard.{body_near, killer_of_legal}
 use Rattle.bs_batch.proofs.Numbers.{near_raised}
 use Rattle.bs_batch.proofs.Shown.{body_shown}
 
@@ -113,11 +113,10 @@ pub head_written : (head : Head) (version at : ℕ) (old new : List ℕ) → ((m
 head_written head version at old new versions writes b food plane bodies saved =
     let s = saved.shows.seats.settings in
     let v = versions b.mode s.mode in
-    let none : is_some b.hazards ≡ false = ap is_some saved.hazards in
     let start : IsWritten [] 0 old = record { end = refl; bytes = λ _. refl } in
     let is : (version ∷ head.settings.mode ∷ head.settings.width ∷ head.settings.height ∷ head.turn / 256 ∷ head.turn % 256 ∷ head.settings.min_food ∷ head.settings.chance
-    ∷ head.settings.seats ∷ head.foods / 256 ∷ head.foods % 256 ∷ []) ≡ head_bytes b =
-    rw (v, s.mode, s.width, s.height, saved.shows.seats.turn, s.min_food, s.chance, s.seats, saved.shows.food.count, none) refl in
+    ∷ head.settings.seats ∷ head.foods / 256 ∷ head.foods % 256 ∷ []) ≡ head_bytes (without_hazards b) =
+    rw (v, s.mode, s.width, s.height, saved.shows.seats.turn, s.min_food, s.chance, s.seats, saved.shows.food.count) refl in
     subst (λ (l : List ℕ). IsWritten l at new) is (writes [] start)
 
 killer_is : (killer : Option ℕ) (byte : ℕ) → byte ≡ seat_byte killer → IsSeatOfEight killer → (byte + 1) % 256 ≡ killer_byte killer
@@ -138,13 +137,13 @@ unfolding snake_record
 snake_written head bodies seat at middle at' numbers old now new body first second b food plane d saved within done written =
     let s = get_or b.snakes seat d in
     let same : snake_at b.snakes seat ≡ s = get_or_default b.snakes seat nobody d within in
-    let none : is_some b.hazards ≡ false = ap is_some saved.hazards in
-    let can = All-get_or (CanLoad b.width b.height) b.snakes seat d within (can_load b saved.legal none).snakes in
+    let near = subst (λ (t : Snake). AreNear b.width b.height t.body) same (body_near b seat saved.legal within) in
+    let killer = killer_of_legal b seat s s.cause saved.legal.limits.few within (saved.legal.snakes seat d within).state in
     let shows = subst (λ (t : Snake). ShowsSnake (seat_at head.seats seat) (room_of bodies seat) t) same (saved.shows.seats.snakes seat within) in
-    let start = first (room_of bodies seat) s shows can.killer (saved.ids seat d within) done written in
+    let start = first (room_of bodies seat) s shows killer (saved.ids seat d within) done written in
     let are : numbers ≡ numbers_of s.body =
     body ∙ body_shown head.seats bodies b.snakes seat saved.shows.seats.snakes within ∙ ap (λ (t : Snake). numbers_of t.body) same in
-    let writable : AreWritable 1 b.width b.height s.body = record { narrow = can.body.narrow; low = can.body.low; inside = inr (refl, can.body.near) } in
+    let writable : AreWritable 1 b.width b.height s.body = record { narrow = near.narrow; low = near.low; inside = inr (refl, near.near) } in
     subst (λ (l : List ℕ). IsWritten l at' new) (append_assoc done ((length s.id ∷ s.id) ++ state_bytes s) (flat_map (cell_bytes 1) s.body))
     (second b.width b.height s.body writable are (done ++ ((length s.id ∷ s.id) ++ state_bytes s)) start)
 
@@ -152,7 +151,7 @@ snake_written head bodies seat at middle at' numbers old now new body first seco
 abbrev pub SavedSoFar : Head → List ℕ → List ℕ → ℕ → ℕ → List ℕ → Type 0
 SavedSoFar head food bodies i at into =
     (b : Board) (plane : List ℕ) → IsSavedAs head food plane bodies b
-    → IsWritten ((head_bytes b ++ flat_map (cell_bytes 0) b.food) ++ flat_map snake_record (take i b.snakes)) at into
+    → IsWritten ((head_bytes (without_hazards b) ++ flat_map (cell_bytes 0) b.food) ++ flat_map snake_record (take i b.snakes)) at into
 
 pub food_saved : (head : Head) (food bodies : List ℕ) (n middle at : ℕ) (now new : List ℕ) → n ≡ min head.foods (length food) → WritesHead head middle now
     → WritesCells 0 (take n food) middle now at new → SavedSoFar head food bodies 0 at new
@@ -164,8 +163,8 @@ food_saved head food bodies n middle at now new few first second b plane saved =
       low = side_fits b.height saved.legal.limits.height;
       inside = inl (refl, AllPass-from_list_all (is_on_board b.width b.height) b.food parts.0);
     } in
-    subst (λ (l : List ℕ). IsWritten l at new) (sym (append-nil (head_bytes b ++ flat_map (cell_bytes 0) b.food)))
-    (second b.width b.height b.food writable are (head_bytes b) (first b food plane bodies saved))
+    subst (λ (l : List ℕ). IsWritten l at new) (sym (append-nil (head_bytes (without_hazards b) ++ flat_map (cell_bytes 0) b.food)))
+    (second b.width b.height b.food writable are (head_bytes (without_hazards b)) (first b food plane bodies saved))
 
 pub snake_saved : (head : Head) (food bodies : List ℕ) (i at at' : ℕ) (now new : List ℕ) → i < head.settings.seats → SavedSoFar head food bodies i at now
     → WritesSnake head bodies i at now at' new → SavedSoFar head food bodies (i + 1) at' new
@@ -173,27 +172,30 @@ snake_saved head food bodies i at at' now new within so_far writes b plane saved
     let seats = saved.shows.seats.settings.seats in
     let front = flat_map snake_record (take i b.snakes) in
     let more : flat_map snake_record (take (i + 1) b.snakes) ≡ front ++ snake_record (get_or b.snakes i nobody) = more_pieces snake_record b.snakes i nobody (omega arith) in
-    subst (λ (l : List ℕ). IsWritten l at' new) (append_assoc (head_bytes b ++ flat_map (cell_bytes 0) b.food) front (snake_record (get_or b.snakes i nobody))
-    ∙ ap (λ l. (head_bytes b ++ flat_map (cell_bytes 0) b.food) ++ l) (sym more))
-    (writes b food plane nobody saved (omega arith) ((head_bytes b ++ flat_map (cell_bytes 0) b.food) ++ front) (so_far b plane saved))
+    subst (λ (l : List ℕ). IsWritten l at' new) (append_assoc (head_bytes (without_hazards b) ++ flat_map (cell_bytes 0) b.food) front (snake_record (get_or b.snakes i nobody))
+    ∙ ap (λ l. (head_bytes (without_hazards b) ++ flat_map (cell_bytes 0) b.food) ++ l) (sym more))
+    (writes b food plane nobody saved (omega arith) ((head_bytes (without_hazards b) ++ flat_map (cell_bytes 0) b.food) ++ front) (so_far b plane saved))
 
-no_hazards : (hazards : Option Hazards) → hazards ≡ None → hazard_bytes hazards ≡ []
+no_hazards : hazard_bytes None ≡ []
 unfolding hazard_bytes
-no_hazards hazards none = rw none refl
+no_hazards = refl
 
-record_is : (b : Board) → b.hazards ≡ None → (head_bytes b ++ flat_map (cell_bytes 0) b.food) ++ flat_map snake_record b.snakes ≡ record_of b
+record_is : (b : Board) → (head_bytes (without_hazards b) ++ flat_map (cell_bytes 0) b.food) ++ flat_map snake_record b.snakes ≡ record_of (without_hazards b)
 unfolding record_of
-record_is b none =
-    let plain = no_hazards b.hazards none in
-    let front = head_bytes b ++ flat_map (cell_bytes 0) b.food in
+record_is b =
+    let plain = no_hazards in
+    let front = head_bytes (without_hazards b) ++ flat_map (cell_bytes 0) b.food in
     ap (λ l. l ++ flat_map snake_record b.snakes) (sym (append-nil front) ∙ ap (λ l. front ++ l) (sym plain))
 
 pub all_saved : (head : Head) (food bodies : List ℕ) (i at : ℕ) (now : List ℕ) → i ≡ head.settings.seats → SavedSoFar head food bodies i at now → SavesGame head food bodies now at
 all_saved head food bodies i at now end so_far b plane saved =
     let seats = saved.shows.seats.settings.seats in
-    let all : (head_bytes b ++ flat_map (cell_bytes 0) b.food) ++ flat_map snake_record (take i b.snakes) ≡ record_of b =
-    ap (λ l. (head_bytes b ++ flat_map (cell_bytes 0) b.food) ++ flat_map snake_record l) (take_all i b.snakes (omega arith)) ∙ record_is b saved.hazards in
+    let all : (head_bytes (without_hazards b) ++ flat_map (cell_bytes 0) b.food) ++ flat_map snake_record (take i b.snakes) ≡ record_of (without_hazards b) =
+    ap (λ l. (head_bytes (without_hazards b) ++ flat_map (cell_bytes 0) b.food) ++ flat_map snake_record l) (take_all i b.snakes (omega arith)) ∙ record_is b in
     let written = subst (λ (l : List ℕ). IsWritten l at now) all (so_far b plane saved) in
-    let size = legal_size b saved.legal in
+    let most = legal_size b saved.legal in
+    let whole = length_of_record b in
+    let size = length_of_record (without_hazards b) in
+    let none : length (hazard_bytes None) ≡ 0 = ap length no_hazards in
     let ends = written.end in
     record { count = omega arith; bytes = written.bytes }

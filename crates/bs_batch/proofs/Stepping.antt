@@ -59,17 +59,17 @@ area : (w h longest : ℕ) → w ≤ longest → h ≤ longest → w * h ≤ lon
 area w h longest wide high = grind arith
 
 -- a game whose lists have room for the largest board
-pub plays_game : (longest : ℕ) (moves words : List ℕ) (head : Head) (food plane bodies : List ℕ) (head' : Head) (food' plane' bodies' : List ℕ)
+pub plays_game : (longest : ℕ) (moves words counts : List ℕ) (damage : ℕ) (head : Head) (food plane bodies : List ℕ) (head' : Head) (food' plane' bodies' : List ℕ)
     → longest * longest ≤ length food → length food ≤ 1024 → longest * longest + 4 ≤ length bodies / 8 → length bodies < 65536
-    → PlaysTurn moves words head food plane bodies head' food' plane' bodies' → PlaysGame longest moves words head food plane bodies head' food' plane' bodies'
-plays_game longest moves words head food plane bodies head' food' plane' bodies' cells few long small plays b orders shows lasting early on wide high given =
+    → PlaysTurn moves words counts damage head food plane bodies head' food' plane' bodies' → PlaysGame longest moves words counts damage head food plane bodies head' food' plane' bodies'
+plays_game longest moves words counts damage head food plane bodies head' food' plane' bodies' cells few long small plays b orders shows lasting early on wide high beside given =
     let most = area b.width b.height longest wide high in
-    plays b orders shows lasting early (record { cells = omega arith; few = few; long = omega arith; small = small }) given
+    plays b orders shows lasting early (record { cells = omega arith; few = few; long = omega arith; small = small }) beside given
 
 -- a game that may not be stepped shows no such board
-pub plays_none : (longest : ℕ) (moves words : List ℕ) (head : Head) (food plane bodies : List ℕ) → (MayStep longest head → ⊥)
-    → PlaysGame longest moves words head food plane bodies head food plane bodies
-plays_none longest moves words head food plane bodies closed b orders shows lasting early on wide high given =
+pub plays_none : (longest : ℕ) (moves words counts : List ℕ) (damage : ℕ) (head : Head) (food plane bodies : List ℕ) → (MayStep longest head → ⊥)
+    → PlaysGame longest moves words counts damage head food plane bodies head food plane bodies
+plays_none longest moves words counts damage head food plane bodies closed b orders shows lasting early on wide high beside given =
     absurd (closed (may_be_stepped longest head food plane bodies b shows lasting early on wide high))
 
 -- as many as there are, up to a number

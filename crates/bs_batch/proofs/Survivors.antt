@@ -1,5 +1,5 @@
 -- The snakes that survive a turn.
-use Rattle.std.proofs.Common.{◌≡◌, ℕ, ◌+◌, ◌-◌, ◌<◌, Bool, true, false, List, [], ◌∷◌, ◌++◌, length, get_or, Contains, Option, Some, None, refl, sym, subst, ap, ◌∙◌, arith, inl, inr}
+use Rattle.std.proofs.Common.{◌≡◌, ℕ, ◌+◌, ◌-◌, ◌*◌, ◌<◌, Bool, true, false, List, [], ◌∷◌, ◌++◌, length, get_or, Contains, Option, Some, None, refl, sym, subst, ap, ◌∙◌, arith, inl, inr}
 use Rattle.std.specs.Prelude.{slice_index_or}
 use Rattle.std.proofs.lemmas.Bool.{cond_both, false≢true}
 use Rattle.std.proofs.lemmas.List.{get_or-map, length-map}
@@ -16,13 +16,16 @@ use Rattle.bs_rules.specs.declared.verdict.Verdict.{Verdict}
 use Rattle.bs_rules.specs.Collision.{collided, map_seats, nobody, snake_at, IsJudged}
 use Rattle.bs_rules.specs.Elimination.{judged, starved_or_outside, starved_or_outside_snake, starved_or_outside_verdict}
 use Rattle.bs_rules.specs.Feeding.{eats, fed, fed_snake, last_of}
+use Rattle.bs_rules.specs.Hurting.{hazard_verdict}
 use Rattle.bs_rules.specs.Motion.{direction_taken, moved, moved_body, neighbor}
 use Rattle.bs_rules.proofs.CollisionMeaning.{collided_is_judged}
 use Rattle.bs_rules.proofs.Seats.{at_seat, length-map_seats}
 use Rattle.bs_rules.proofs.SoundCollision.{length_collided}
 use Rattle.bs_batch.specs.Directions.{given_by}
+use Rattle.bs_batch.specs.Hurting.{count_on, hurt_all, hurt_by_count, is_hurt_by, with_health}
 use Rattle.bs_batch.specs.inner.Turns.{moved_each}
 use Rattle.bs_batch.proofs.Crossings.{Advances, advances_grown, behind_head, front_of, repeats_last}
+use Rattle.bs_batch.proofs.JudgedRoom.{hurt_keeps}
 
 -- if it lives, it lived before the turn, and its body is one step further
 pub record GoesOn (old s : Snake) : Type 0 where
@@ -102,6 +105,22 @@ survives_judged old o seat now goes (inr (cause, (killer, out))) =
       free = λ alive. absurd (false≢true (sym dead ∙ alive));
     }
 
+-- one that a hazard may hurt, if it lives
+living_unhurt : (turn damage count : ℕ) (s : Snake) → is_living (hurt_by_count turn damage count s) ≡ true → is_living s ≡ true
+living_unhurt turn damage count s =
+    let health = s.health - damage * count in
+    cond_both (is_hurt_by count s) (with_health turn health s) s (λ t. is_living t ≡ true → is_living s ≡ true)
+    (λ _ alive. sym (ap is_living (judged_stays turn (hazard_verdict health) (record s { health = health }) alive)) ∙ alive) (λ _ alive. alive)
+
+goes_hurt : (old s : Snake) (turn damage count : ℕ) → GoesOn old s → GoesOn old (hurt_by_count turn damage count s)
+goes_hurt old s turn damage count goes = record {
+  before = λ alive. goes.before (living_unhurt turn damage count s alive);
+  head = goes.head;
+  body = λ alive.
+      let same = (hurt_keeps turn damage count s).body in
+      rw same (goes.body (living_unhurt turn damage count s alive));
+}
+
 living_grown : (s : Snake) → is_living (grown_snake s) ≡ is_living s
 living_grown s = cond_both (is_living s) (record s { health = 100; body = grown_body s.body }) s (λ t. is_living t ≡ is_living s) (λ _. refl) (λ _. refl)
 
@@ -118,9 +137,13 @@ survives_grown old s survives = record {
   free = λ alive. survives.free (sym (living_grown s) ∙ alive);
 }
 
-module _ (moves : List ℕ) (b : Board) where
+module _ (moves counts : List ℕ) (damage : ℕ) (b : Board) where
+  -- after the motion, the meals and the hazards
+  abbrev pub hurt_fed : Board
+  hurt_fed = hurt_all counts damage (fed (moved_each moves b))
+
   abbrev first : Board
-  first = starved_or_outside (fed (moved_each moves b))
+  first = starved_or_outside hurt_fed
 
   abbrev pub left : Board
   left = collided first
@@ -134,25 +157,35 @@ module _ (moves : List ℕ) (b : Board) where
   length_fed : length (fed (moved_each moves b)).snakes ≡ length b.snakes
   length_fed = length-map (map_seats step_of b.snakes) (fed_snake b.food) ∙ length-map_seats step_of b.snakes
 
+  abbrev hurt_of : Snake → Snake
+  hurt_of s = hurt_by_count (b.turn + 1) damage (count_on b.width b.height counts (head_of s.body)) s
+
+  length_hurt : length hurt_fed.snakes ≡ length b.snakes
+  length_hurt = length-map (fed (moved_each moves b)).snakes hurt_of ∙ length_fed
+
   length_first : length first.snakes ≡ length b.snakes
-  length_first = length-map (fed (moved_each moves b)).snakes first_of ∙ length_fed
+  length_first = length-map hurt_fed.snakes first_of ∙ length_hurt
 
   pub length_left : length left.snakes ≡ length b.snakes
   length_left = length_collided first ∙ length_first
 
-  first_at : (seat : ℕ) → seat < length b.snakes → snake_at first.snakes seat ≡ first_of (fed_snake b.food (step_of seat (snake_at b.snakes seat)))
+  first_at : (seat : ℕ) → seat < length b.snakes → snake_at first.snakes seat ≡ first_of (hurt_of (fed_snake b.food (step_of seat (snake_at b.snakes seat))))
   first_at seat within =
       let n = length_fed in
+      let l = length_hurt in
       let m = length-map_seats step_of b.snakes in
-      get_or-map first_of (fed (moved_each moves b)).snakes seat nobody nobody (omega arith)
-      ∙ ap first_of (get_or-map (fed_snake b.food) (map_seats step_of b.snakes) seat nobody nobody (omega arith) ∙ ap (fed_snake b.food) (at_seat step_of b.snakes seat nobody within))
+      let ate : snake_at (fed (moved_each moves b)).snakes seat ≡ fed_snake b.food (step_of seat (snake_at b.snakes seat)) =
+      get_or-map (fed_snake b.food) (map_seats step_of b.snakes) seat nobody nobody (omega arith) ∙ ap (fed_snake b.food) (at_seat step_of b.snakes seat nobody within) in
+      get_or-map first_of hurt_fed.snakes seat nobody nobody (omega arith)
+      ∙ ap first_of (get_or-map hurt_of (fed (moved_each moves b)).snakes seat nobody nobody (omega arith) ∙ ap hurt_of ate)
 
   goes_first : (seat : ℕ) → seat < length b.snakes → GoesOn (snake_at b.snakes seat) (snake_at first.snakes seat)
   goes_first seat within =
       let s = snake_at b.snakes seat in
       let t = fed_snake b.food (step_of seat s) in
-      let goes = stays s t (first_of t) (first_stays (is_wrapped b.mode) b.width b.height (b.turn + 1) t)
-      (goes_fed (wrap_of b) (given_by (slice_index_or moves seat 4)) b.food s) in
+      let ate = goes_fed (wrap_of b) (given_by (slice_index_or moves seat 4)) b.food s in
+      let goes = stays s (hurt_of t) (first_of (hurt_of t)) (first_stays (is_wrapped b.mode) b.width b.height (b.turn + 1) (hurt_of t))
+      (goes_hurt s t (b.turn + 1) damage (count_on b.width b.height counts (head_of t.body)) ate) in
       rw (first_at seat within) goes
 
   pub survivors : (seat : ℕ) (d : Snake) → seat < length b.snakes → Survives (snake_at b.snakes seat) (get_or left.snakes seat d)

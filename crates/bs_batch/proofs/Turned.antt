@@ -1,14 +1,16 @@
 -- A whole turn from its steps.
-use Rattle.std.proofs.Common.{◌≡◌, ℕ, ◌+◌, ◌<◌, ◌⊎◌, List, [], ◌∷◌, length, map, get_or, All, Option, None, refl, sym, subst, ap, ◌∙◌, arith, inl, inr}
+use Rattle.std.proofs.Common.{◌≡◌, ℕ, ◌+◌, ◌<◌, ◌⊎◌, List, length, map, get_or, All, MatchOption, Option, Some, None, true, ◌-◌, refl, sym, subst, ap, ◌∙◌, arith, inl, inr}
 use Rattle.std.specs.Prelude.{slice_index_or}
+use Rattle.std.proofs.lemmas.Bool.{cond_both, false≢true}
 use Rattle.std.proofs.lemmas.List.{ext_get_or, get_or-map, length-map}
-use Rattle.bs_board.specs.declared.boards.point.Point.{Point}
 use Rattle.bs_board.specs.declared.boards.board.Board.{Board}
 use Rattle.bs_board.specs.declared.boards.board.Mode.{Mode}
 use Rattle.bs_board.specs.declared.boards.board.Mode.TheVariants.{Standard, Solo, Constrictor, Wrapped}
-use Rattle.bs_board.specs.declared.boards.hazards.Hazards.{Hazards}
+use Rattle.bs_board.specs.declared.boards.point.Direction.{Direction}
+use Rattle.bs_board.specs.declared.boards.snake.Cause.{Cause}
 use Rattle.bs_board.specs.declared.boards.snake.Snake.{Snake}
-use Rattle.bs_board.specs.boards.Legal.{IsLegal}
+use Rattle.bs_board.specs.boards.Legal.{IsLegal, IsLegalLiving, IsLegalOut, IsLegalSnake}
+use Rattle.bs_board.specs.boards.Over.{is_living}
 use Rattle.bs_board.specs.boards.Wrap.{wrap_of}
 use Rattle.bs_board.specs.commands.Orders.{Orders, given_to}
 use Rattle.bs_food.specs.Given.{given}
@@ -19,18 +21,21 @@ use Rattle.bs_modes.specs.Growth.{grown_snake}
 use Rattle.bs_rules.specs.Collision.{collided, map_seats, nobody, snake_at}
 use Rattle.bs_rules.specs.Elimination.{starved_or_outside}
 use Rattle.bs_rules.specs.Feeding.{fed}
-use Rattle.bs_rules.specs.Hurting.{hurt, hurt_snake}
-use Rattle.bs_rules.specs.Motion.{moved, moved_board}
+use Rattle.bs_rules.specs.Hurting.{hazards_after, hurt}
+use Rattle.bs_rules.specs.Motion.{moved, moved_board, moved_body}
 use Rattle.bs_rules.specs.Turn.{redrawn, refilled, replenished, turn_of}
 use Rattle.bs_rules.proofs.Seats.{at_seat, length-map_seats}
 use Rattle.bs_rules.proofs.TurnLegal.{turn_is_legal}
 use Rattle.bs_batch.specs.declared.layout.Head.{Head}
 use Rattle.bs_batch.specs.Directions.{given_by}
+use Rattle.bs_batch.specs.Hazards.{ShowsHazards}
 use Rattle.bs_batch.specs.Lasting.{CrossesLittle, IsLasting}
-use Rattle.bs_batch.specs.Shown.{ShowsGame}
+use Rattle.bs_batch.specs.Shown.{ShowsGame, ShowsSettings}
 use Rattle.bs_batch.specs.Turn.{AreOrders, IsPlayed}
+use Rattle.bs_batch.specs.inner.Turns.{moved_each}
 use Rattle.bs_batch.proofs.Crossings.{no_more_crossings}
-use Rattle.bs_batch.proofs.Survivors.{Survives, left, length_left, survives_grown, survivors}
+use Rattle.bs_batch.proofs.HurtFed.{fed_hurt}
+use Rattle.bs_batch.proofs.Survivors.{hurt_fed, Survives, left, length_left, survives_grown, survivors}
 
 -- What growth or new food changes.
 pub record Refills (c n : Board) : Type 0 where
@@ -53,18 +58,37 @@ refills Solo orders c = refills_by_food orders c
 refills Constrictor orders c = record { only = refl; snakes = inr refl }
 refills Wrapped orders c = refills_by_food orders c
 
-unhurt : (hazards : Option Hazards) (food : List Point) (turn : ℕ) (snakes : List Snake) → hazards ≡ None → map (hurt_snake hazards food turn) snakes ≡ snakes
-unhurt hazards food turn [] none = refl
-unhurt hazards food turn (s ∷ snakes) none =
-    let here : hurt_snake hazards food turn s ≡ s = rw none refl in
-    let rest = unhurt hazards food turn snakes none in
-    rw (here, rest) refl
+-- a board that differs in its hazards alone
+redrawn_shows : (orders : Orders) (c : Board) (head : Head) (food plane bodies : List ℕ) → ShowsGame head food plane bodies c → ShowsGame head food plane bodies (redrawn orders c)
+redrawn_shows orders c head food plane bodies shows =
+    let seats = shows.seats in
+    let settings = seats.settings in
+    let same : ShowsSettings head.settings (redrawn orders c) = record {
+      mode = settings.mode;
+      width = settings.width;
+      height = settings.height;
+      seats = settings.seats;
+      min_food = settings.min_food;
+      chance = settings.chance;
+    } in
+    record {
+      seats = record { settings = same; turn = seats.turn; eight = seats.eight; snakes = seats.snakes; counts = seats.counts };
+      food = shows.food;
+      living = shows.living;
+      over = shows.over;
+    }
 
-hurt_none : (c : Board) → c.hazards ≡ None → hurt c ≡ c
-hurt_none c none = ap (λ (snakes : List Snake). record c { snakes = snakes }) (unhurt c.hazards c.food (c.turn + 1) c.snakes none)
+not_full_if : (b : Board) (seat : ℕ) (s : Snake) (cause : Option Cause) → is_living (record s { cause = cause }) ≡ true
+    → MatchOption cause (IsLegalLiving b s) (IsLegalOut b seat s) → s.health - 1 ≡ 100 → ⊥
+not_full_if b seat s None alive state full = let most = state.full in omega arith
+not_full_if b seat s (Some cause) alive state full = absurd (false≢true alive)
 
-redrawn_none : (orders : Orders) (c : Board) → orders.hazards ≡ None → redrawn orders c ≡ c
-redrawn_none orders c none = rw none refl
+-- a living snake has less than full health after a motion
+not_full : (b : Board) (seat : ℕ) (s : Snake) (wrap : Option (ℕ × ℕ)) (given : Option Direction) → IsLegalSnake b seat s → is_living (moved wrap given s) ≡ true
+    → (moved wrap given s).health ≡ 100 → ⊥
+not_full b seat s wrap given l =
+    cond_both (is_living s) (record s { body = moved_body wrap given s.body; health = s.health - 1 }) s (λ t. is_living t ≡ true → t.health ≡ 100 → ⊥)
+    (λ alive _ full. not_full_if b seat s s.cause alive l.state full) (λ dead alive _. absurd (false≢true (sym dead ∙ alive)))
 
 crosses_no_more : (width height : ℕ) (s u : Snake) → Survives s u → CrossesLittle width height s → CrossesLittle width height u
 crosses_no_more width height s u survives little alive =
@@ -73,7 +97,8 @@ crosses_no_more width height s u survives little alive =
     let less = no_more_crossings width height s.body goes.head u.body (goes.body alive) (survives.free alive) in
     omega arith
 
-module _ (moves words : List ℕ) (b : Board) (orders : Orders) (is : AreOrders moves words b orders) (lasting : IsLasting b) (early : b.turn < 10000) where
+module _ (moves words counts : List ℕ) (damage : ℕ) (b : Board) (orders : Orders) (is : AreOrders moves words b orders) (lasting : IsLasting b) (early : b.turn < 10000)
+    (beside : ShowsHazards counts damage b) where
   abbrev by_id : Snake → Snake
   by_id s = moved (wrap_of b) (given_to orders.moves s.id) s
 
@@ -91,52 +116,75 @@ module _ (moves words : List ℕ) (b : Board) (orders : Orders) (is : AreOrders 
       ∙ sym (at_seat by_seat b.snakes k nobody inside))
 
   abbrev pub next : Board
-  next = replenished b.mode orders (left moves b)
+  next = replenished b.mode orders (left moves counts damage b)
 
-  pub turn_is : turn_of b orders ≡ record next { turn = b.turn + 1 }
+  -- no snake has full health after a motion
+  lower : All (λ s. is_living s ≡ true → s.health ≡ 100 → ⊥) (moved_each moves b).snakes
+  lower k d within =
+      let m = length-map_seats by_seat b.snakes in
+      let inside : k < length b.snakes = omega arith in
+      let s = snake_at b.snakes k in
+      rw (at_seat by_seat b.snakes k d inside) (not_full b k s (wrap_of b) (given_by (slice_index_or moves k 4)) (lasting.legal.snakes k nobody inside))
+
+  pub turn_is : turn_of b orders ≡ redrawn orders (record next { turn = b.turn + 1 })
   unfolding turn_of
   turn_is =
-      let all = hurt_none (moved_board orders.moves b) lasting.plain ∙ ap (λ (snakes : List Snake). record b { snakes = snakes }) same_moves in
-      redrawn_none orders (record (replenished b.mode orders (collided (starved_or_outside (fed (hurt (moved_board orders.moves b)))))) { turn = b.turn + 1 }) is.hazards
-      ∙ ap (λ (m : Board). record (replenished b.mode orders (collided (starved_or_outside (fed m)))) { turn = b.turn + 1 }) all
+      let all : fed (hurt (moved_board orders.moves b)) ≡ hurt_fed moves counts damage b =
+      ap (λ (snakes : List Snake). fed (hurt (record b { snakes = snakes }))) same_moves
+      ∙ fed_hurt counts damage (moved_each moves b) (record { cells = beside.cells; hurts = beside.hurts }) lasting.legal.hazards lower in
+      ap (λ (m : Board). redrawn orders (record (replenished b.mode orders (collided (starved_or_outside m))) { turn = b.turn + 1 })) all
 
   pub turn_stays : next.turn ≡ b.turn
-  turn_stays = ap (λ (t : Board). t.turn) (refills b.mode orders (left moves b)).only
+  turn_stays = ap (λ (t : Board). t.turn) (refills b.mode orders (left moves counts damage b)).only
 
-  crosses_left : All (CrossesLittle b.width b.height) (left moves b).snakes
+  crosses_left : All (CrossesLittle b.width b.height) (left moves counts damage b).snakes
   crosses_left k d within =
-      let n = length_left moves b in
+      let n = length_left moves counts damage b in
       let inside : k < length b.snakes = omega arith in
-      crosses_no_more b.width b.height (snake_at b.snakes k) (get_or (left moves b).snakes k d) (survivors moves b k d inside) (lasting.bodies k nobody inside)
+      crosses_no_more b.width b.height (snake_at b.snakes k) (get_or (left moves counts damage b).snakes k d) (survivors moves counts damage b k d inside) (lasting.bodies k nobody inside)
 
-  crosses_grown : All (CrossesLittle b.width b.height) (map grown_snake (left moves b).snakes)
+  crosses_grown : All (CrossesLittle b.width b.height) (map grown_snake (left moves counts damage b).snakes)
   crosses_grown k d within =
-      let n = length_left moves b in
-      let m = length-map (left moves b).snakes grown_snake in
+      let n = length_left moves counts damage b in
+      let m = length-map (left moves counts damage b).snakes grown_snake in
       let inside : k < length b.snakes = omega arith in
-      let s = get_or (left moves b).snakes k d in
-      rw (get_or-map grown_snake (left moves b).snakes k d d (omega arith))
-      (crosses_no_more b.width b.height (snake_at b.snakes k) (grown_snake s) (survives_grown (snake_at b.snakes k) s (survivors moves b k d inside)) (lasting.bodies k nobody inside))
+      let s = get_or (left moves counts damage b).snakes k d in
+      rw (get_or-map grown_snake (left moves counts damage b).snakes k d d (omega arith))
+      (crosses_no_more b.width b.height (snake_at b.snakes k) (grown_snake s) (survives_grown (snake_at b.snakes k) s (survivors moves counts damage b k d inside)) (lasting.bodies k nobody inside))
 
-  crosses_next : (snakes : List Snake) → (snakes ≡ (left moves b).snakes) ⊎ (snakes ≡ map grown_snake (left moves b).snakes) → All (CrossesLittle b.width b.height) snakes
+  crosses_next : (snakes : List Snake) → (snakes ≡ (left moves counts damage b).snakes) ⊎ (snakes ≡ map grown_snake (left moves counts damage b).snakes) → All (CrossesLittle b.width b.height) snakes
   crosses_next snakes (inl same) = rw same crosses_left
   crosses_next snakes (inr grew) = rw grew crosses_grown
 
+  abbrev refill : Refills (left moves counts damage b) next
+  refill = refills b.mode orders (left moves counts damage b)
+
+  wide : next.width ≡ b.width
+  wide = ap (λ (t : Board). t.width) refill.only
+
+  high : next.height ≡ b.height
+  high = ap (λ (t : Board). t.height) refill.only
+
   pub lasts : IsLasting (turn_of b orders)
   lasts =
-      let refill = refills b.mode orders (left moves b) in
-      let wide : next.width ≡ b.width = ap (λ (t : Board). t.width) refill.only in
-      let high : next.height ≡ b.height = ap (λ (t : Board). t.height) refill.only in
-      let last : IsLasting (record next { turn = b.turn + 1 }) = record {
+      let last : IsLasting (redrawn orders (record next { turn = b.turn + 1 })) = record {
         legal = subst IsLegal turn_is (turn_is_legal b orders lasting.legal early);
-        plain = ap (λ (t : Board). t.hazards) refill.only ∙ lasting.plain;
         bodies = rw (wide, high) (crosses_next next.snakes refill.snakes);
       } in
       subst IsLasting (sym turn_is) last
+
+  hazards_are : (turn_of b orders).hazards ≡ hazards_after b.width b.height orders.hazards b.hazards
+  hazards_are =
+      let same : next.hazards ≡ b.hazards = ap (λ (t : Board). t.hazards) refill.only in
+      ap (λ (t : Board). t.hazards) turn_is ∙ rw (wide, high, same) refl
 
   pub is_played : (head : Head) (food plane bodies : List ℕ) → ShowsGame head food plane bodies (record next { turn = next.turn + 1 })
       → IsPlayed orders b head food plane bodies
   is_played head food plane bodies shows =
       let P : Board → Type 0 = λ c. ShowsGame head food plane bodies c in
-      let same : record next { turn = next.turn + 1 } ≡ turn_of b orders = ap (λ (t : ℕ). record next { turn = t + 1 }) turn_stays ∙ sym turn_is in
-      record { shows = subst P same shows; lasting = lasts }
+      let risen : record next { turn = next.turn + 1 } ≡ record next { turn = b.turn + 1 } = ap (λ (t : ℕ). record next { turn = t + 1 }) turn_stays in
+      record {
+        shows = subst P (sym turn_is) (redrawn_shows orders (record next { turn = b.turn + 1 }) head food plane bodies (subst P risen shows));
+        lasting = lasts;
+        hazards = hazards_are;
+      }

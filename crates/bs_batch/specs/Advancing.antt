@@ -1,5 +1,5 @@
 -- A turn of some games, a start of others, and the planes of both.
-use Rattle.std.specs.Prelude.{◌≡◌, ℕ, ◌+◌, ◌*◌, ◌≤◌, ◌<◌, Bool, IsFalse, List, length, slice_index_or}
+use Rattle.std.specs.Prelude.{◌≡◌, ℕ, ◌+◌, ◌*◌, ◌≤◌, ◌<◌, Bool, IsFalse, List, length, slice_index, slice_index_or}
 use Rattle.bs_board.specs.declared.boards.board.Board.{Board}
 use Rattle.bs_batch.specs.declared.layout.LargeGame.{LargeGame}
 use Rattle.bs_batch.specs.declared.layout.SmallGame.{SmallGame}
@@ -22,13 +22,13 @@ pub record AdvancesOne (act : ℕ) (plays starts stays : Type 0) (result : Bool)
 
 abbrev pub AdvancesSmall : ManyOrders → ManyStarts → ℕ → SmallGame → SmallGame → Bool → Type 0
 AdvancesSmall orders first number old new result =
-    AdvancesOne (act_of first number) (StepsSmall (piece_of orders.moves.now number orders.moves_each) (words_of orders.words.now number orders.words_each) old new)
-    (StartsSmall first number old new result) (new ≡ old) result
+    AdvancesOne (act_of first number) (StepsSmall (piece_of orders.moves.now number orders.moves_each) (words_of orders.words.now number orders.words_each)
+    (piece_of orders.hazards.now number orders.hazards_each) (slice_index orders.damages.now number) old new) (StartsSmall first number old new result) (new ≡ old) result
 
 abbrev pub AdvancesLarge : ManyOrders → ManyStarts → ℕ → LargeGame → LargeGame → Bool → Type 0
 AdvancesLarge orders first number old new result =
-    AdvancesOne (act_of first number) (StepsLarge (piece_of orders.moves.now number orders.moves_each) (words_of orders.words.now number orders.words_each) old new)
-    (StartsLarge first number old new result) (new ≡ old) result
+    AdvancesOne (act_of first number) (StepsLarge (piece_of orders.moves.now number orders.moves_each) (words_of orders.words.now number orders.words_each)
+    (piece_of orders.hazards.now number orders.hazards_each) (slice_index orders.damages.now number) old new) (StartsLarge first number old new result) (new ≡ old) result
 
 -- The planes of each game that played or was started are in its piece of the list, as after
 -- `ShowsEach`; the pieces of the others stay.

@@ -1,5 +1,5 @@
 -- The boards on which each later turn is exact.
-use Rattle.std.specs.Prelude.{◌≡◌, ℕ, ◌-◌, ◌≤◌, true, List, length, take, All, None, count_by, sum_by}
+use Rattle.std.specs.Prelude.{◌≡◌, ℕ, ◌-◌, ◌≤◌, true, List, length, take, All, count_by, sum_by}
 use Rattle.bs_board.specs.declared.boards.point.Point.{Point}
 use Rattle.bs_board.specs.declared.boards.board.Board.{Board}
 use Rattle.bs_board.specs.declared.boards.snake.Snake.{Snake}
@@ -23,12 +23,11 @@ crossings width height body = sum_by (λ cell. parts_before_last cell body - 1) 
 abbrev pub CrossesLittle : ℕ → ℕ → Snake → Type 0
 CrossesLittle width height s = is_living s ≡ true → crossings width height s.body ≤ 1
 
--- a legal board without hazards, whose living bodies hardly cross themselves
+-- a legal board, whose living bodies hardly cross themselves
 pub record IsLasting (b : Board) : Type 0 where
   pub legal : IsLegal b
-  pub plain : b.hazards ≡ None
   pub bodies : All (CrossesLittle b.width b.height) b.snakes
 
--- the board of a new game without hazards is lasting
+-- the board of a new game is lasting
 abbrev pub FirstLaw : Type 0
-FirstLaw = (s : Setup) → is_fit_setup s ≡ true → s.hazards ≡ None → IsLasting (first_board s)
+FirstLaw = (s : Setup) → is_fit_setup s ≡ true → IsLasting (first_board s)

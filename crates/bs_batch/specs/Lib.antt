@@ -4,6 +4,8 @@ pub mod Directions
 pub mod Eliminations
 pub mod Food
 pub mod Games
+pub mod Hazards
+pub mod Hurting
 pub mod Lasting
 pub mod Listing
 pub mod Living

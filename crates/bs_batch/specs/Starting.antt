@@ -1,5 +1,5 @@
 -- The first board of a game.
-use Rattle.std.specs.Prelude.{◌≡◌, ◌↔◌, ℕ, ◌+◌, ◌*◌, ◌≤◌, ◌<◌, ◌==◌, nat_le, Bool, true, false, not, if◌then◌else◌, List, [], length, map, take, drop, count_by, slice_index_or, pos, None, IsTrue, IsFalse}
+use Rattle.std.specs.Prelude.{◌≡◌, ◌↔◌, ℕ, ◌+◌, ◌*◌, ◌≤◌, ◌<◌, ◌==◌, nat_le, Bool, true, false, not, if◌then◌else◌, List, [], length, map, take, drop, count_by, slice_index_or, pos, IsTrue, IsFalse}
 use Rattle.bs_board.specs.declared.boards.point.Point.{Point}
 use Rattle.bs_board.specs.commands.Setup.{Setup, is_fit_food}
 use Rattle.bs_board.specs.records.Record.{mode_byte}
@@ -20,7 +20,7 @@ point_of c = record { x = pos c.x; y = pos c.y }
 abbrev pub points_of : List Cell → List Point
 points_of = map point_of
 
--- The settings and the first cells are those of a setup without hazards. A game has no ids.
+-- The settings and the first cells are those of a setup, whose hazards no game has. Nor has it ids.
 pub record IsSetupOf (settings : Settings) (starts cells : List Cell) (s : Setup) : Type 0 where
   pub mode : settings.mode ≡ mode_byte s.mode
   pub width : settings.width ≡ s.width
@@ -29,7 +29,6 @@ pub record IsSetupOf (settings : Settings) (starts cells : List Cell) (s : Setup
   pub chance : settings.chance ≡ s.chance
   pub snakes : map (λ start. start.1) s.snakes ≡ points_of starts
   pub food : s.food ≡ points_of cells
-  pub hazards : s.hazards ≡ None
 
 -- a starting cell for each seat; they are distinct cells of the board, and so are those of the food
 pub record AreFirstCells (s : Settings) (starts cells : List Cell) : Type 0 where

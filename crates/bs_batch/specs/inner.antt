@@ -5,6 +5,7 @@ pub mod Crossing
 pub mod Eliminations
 pub mod Food
 pub mod FreeCells
+pub mod Hurting
 pub mod Listing
 pub mod Loading
 pub mod Saving

@@ -2,7 +2,7 @@
 
 ghost use Rattle.bs_batch.specs.Lasting.{FirstLaw};
 
-/// States that the board of a new game without hazards is one of those on which each later turn of
+/// States that the board of a new game is one of those on which each later turn of
 /// `step_small` and `step_large` is exact. Does nothing.
 pub fn first_law()
     ensures { FirstLaw }

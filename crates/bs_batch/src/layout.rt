@@ -32,6 +32,8 @@ pub const BODY_COLLISION: u8 = 4;
 
 pub const HEAD_COLLISION: u8 = 5;
 
+pub const HAZARD: u8 = 6;
+
 /// The killer of a seat that has none.
 pub const NO_SEAT: u8 = 255;
 

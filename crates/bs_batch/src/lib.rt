@@ -6,6 +6,7 @@
 mod collisions;
 mod crossing;
 mod food;
+mod hazards;
 mod large;
 mod law;
 mod layout;
@@ -21,6 +22,7 @@ mod small;
 mod starting;
 mod turns;
 
+pub use hazards::Hazards;
 pub use large::{
     advance_large, body_large, food_large, load_large, save_large, show_large, start_large,
     step_large,

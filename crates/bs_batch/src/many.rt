@@ -1,16 +1,17 @@
 //! The lists of many games: game i has the i-th piece of each.
 
-ghost use Rattle.std.specs.Prelude.{◌≡◌, ◌↔◌, ◌≤◌, IsTrue};
+ghost use Rattle.std.specs.Prelude.{◌≡◌, ◌↔◌, ◌≤◌, IsTrue, slice_index};
 ghost use Rattle.bs_batch.specs.Advancing.{act_of};
 ghost use Rattle.bs_batch.specs.Starting.{food_of, has_to_start, piece_of, starts_of};
 ghost use Rattle.bs_batch.specs.Games.{MayStep, words_of};
 
+use crate::hazards::Hazards;
 use crate::layout::{Cell, Head, LAST_TURN, SEATS, Settings, is_fit};
 use crate::starting::FirstCells;
 use crate::turns::Orders;
 use bs_board::limits::MOST_WORDS;
 
-/// The directions and words of many games.
+/// The directions, words and hazards of many games.
 #[repr(C)]
 #[derive(Clone, Copy)]
 pub struct ManyOrders<'a> {
@@ -21,6 +22,12 @@ pub struct ManyOrders<'a> {
     pub words: &'a [u32],
     /// The number of words for each game, of which the first 32 are used.
     pub words_each: usize,
+    /// How many hazards are on each cell, row by row from the bottom; none where there is no byte.
+    pub hazards: &'a [u8],
+    /// The number of bytes of `hazards` for each game.
+    pub hazards_each: usize,
+    /// A byte for each game: the health that is lost for each hazard, 0 without one.
+    pub damages: &'a [u8],
 }
 
 /// The settings and the first cells of many games.
@@ -53,17 +60,35 @@ fn piece<T>(list: &[T], number: usize, each: usize) -> &[T]
     &list[from..from + each]
 }
 
-/// The directions and words of the game of that number.
+/// The byte of the game of that number; 0 if there is none.
+#[inline]
+fn damage_of(damages: &[u8], number: usize) -> u8
+    ensures { result ≡ slice_index damages.now number }
+{
+    if number < damages.len() {
+        damages[number]
+    } else {
+        0
+    }
+}
+
+/// The directions, words and hazards of the game of that number.
 #[inline]
 pub fn orders_of<'a>(orders: &ManyOrders<'a>, number: usize) -> Orders<'a>
     ensures moves { result.moves.now ≡ piece_of orders.now.moves.now number orders.now.moves_each }
     ensures words { result.words.now ≡ words_of orders.now.words.now number orders.now.words_each }
+    ensures hazards { result.hazards.counts.now ≡ piece_of orders.now.hazards.now number orders.now.hazards_each }
+    ensures damage { result.hazards.damage ≡ slice_index orders.now.damages.now number }
 {
     let words = piece(orders.words, number, orders.words_each);
     let few = words.len().min(MOST_WORDS);
     Orders {
         moves: piece(orders.moves, number, orders.moves_each),
         words: &words[..few],
+        hazards: Hazards {
+            counts: piece(orders.hazards, number, orders.hazards_each),
+            damage: damage_of(orders.damages, number),
+        },
     }
 }
 

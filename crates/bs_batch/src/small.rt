@@ -1,6 +1,6 @@
 //! Small games side by side. Game i has the i-th piece of each other list.
 
-ghost use Rattle.std.specs.Prelude.{◌≡◌, ℕ, ◌<◌, length, slice_index_or};
+ghost use Rattle.std.specs.Prelude.{◌≡◌, ℕ, ◌<◌, length, slice_index, slice_index_or};
 ghost use Rattle.bs_batch.specs.declared.layout.SmallGame.{SmallGame as AnyGame};
 ghost use Rattle.bs_batch.specs.Games.{StepsSmall, words_of};
 ghost use Rattle.bs_board.specs.boards.Legal.{IsLegal};
@@ -26,7 +26,7 @@ use bs_board::Board;
 /// Plays a turn of one game, if it is not over and is below turn 10,000.
 #[inline]
 fn step_one(game: &mut SmallGame, orders: Orders<'_>)
-    ensures { StepsSmall orders.entry.moves.now orders.entry.words.now game.old game.new }
+    ensures { StepsSmall orders.entry.moves.now orders.entry.words.now orders.entry.hazards.counts.now orders.entry.hazards.damage game.old game.new }
 {
     if !may_step(&game.head, SMALL_SIDE) {
         return;
@@ -43,7 +43,8 @@ fn step_one(game: &mut SmallGame, orders: Orders<'_>)
 /// Plays a turn in each game that is not over and is below turn 10,000.
 pub fn step_small(games: &mut [SmallGame], orders: &ManyOrders<'_>)
     ensures games { (i : ℕ) (d : AnyGame) → i < length games.old
-        → StepsSmall (piece_of orders.now.moves.now i orders.now.moves_each) (words_of orders.now.words.now i orders.now.words_each) (slice_index_or games.old i d) (slice_index_or games.new i d) }
+        → StepsSmall (piece_of orders.now.moves.now i orders.now.moves_each) (words_of orders.now.words.now i orders.now.words_each)
+        (piece_of orders.now.hazards.now i orders.now.hazards_each) (slice_index orders.now.damages.now i) (slice_index_or games.old i d) (slice_index_or games.new i d) }
 {
     for number in 0..games.len() {
         step_one(&mut games[number], orders_of(orders, number));

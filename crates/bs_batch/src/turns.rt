@@ -20,6 +20,7 @@ ghost use Rattle.bs_batch.specs.inner.Turns.{EndsTurn, MovesAndFeeds, Replenishe
 
 use crate::collisions::{Verdict, collide, eliminate};
 use crate::food::{remove_eaten, spawn};
+use crate::hazards::{Hazards, hurt};
 use crate::layout::{
     ALIVE, CONSTRICTOR, FULL_HEALTH, Head, LARGE_SIDE, NO_SEAT, OUT_OF_HEALTH, SEATS, Seat,
     Settings, WALL_COLLISION, WRAPPED,
@@ -28,12 +29,13 @@ use crate::motion::move_body;
 use crate::planes::{FOOD, add_part, at, is_on_board, remove_part};
 use crate::seats::{body_of, count, head_of};
 
-/// The directions and the words of a turn.
+/// The directions, the words and the hazards of a turn.
 #[derive(Clone, Copy)]
 pub struct Orders<'a> {
     /// A byte for each seat: 0 to 3 for up, down, left and right, else straight on.
     pub moves: &'a [u8],
     pub words: &'a [u32],
+    pub hazards: Hazards<'a>,
 }
 
 /// Repeats the last part, if there is room.
@@ -294,9 +296,10 @@ pub fn step(
 )
     requires high { head.old.settings.height ≤ LARGE_SIDE }
     requires seats { head.old.settings.seats ≤ SEATS }
-    ensures board { PlaysTurn orders.entry.moves.now orders.entry.words.now head.old food.old plane.old bodies.old head.new food.new plane.new bodies.new }
+    ensures board { PlaysTurn orders.entry.moves.now orders.entry.words.now orders.entry.hazards.counts.now orders.entry.hazards.damage head.old food.old plane.old bodies.old head.new food.new plane.new bodies.new }
 {
     move_and_feed(head, food, plane, bodies, orders.moves);
+    hurt(head, plane, bodies, orders.hazards);
     first_out(head, plane, bodies);
     collide(head, plane, bodies);
     replenish(head, food, plane, bodies, orders.words);

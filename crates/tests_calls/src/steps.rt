@@ -2,7 +2,7 @@
 
 use bs_batch::{
     Cell, Head, LargeGame, ManyOrders, ManyStarts, Seat, Settings, SmallGame, advance_large,
-    advance_small,
+    advance_small, step_large, step_small,
 };
 use bs_samples::same;
 use std::test::Fail;
@@ -82,6 +82,9 @@ fn up() -> ManyOrders<'static> {
         moves_each: 1,
         words: &[],
         words_each: 0,
+        hazards: &[],
+        hazards_each: 0,
+        damages: &[],
     }
 }
 
@@ -118,4 +121,52 @@ fn large_games_advance(_rt: HostRuntime) -> Result<(), Fail> {
     same_planes(&planes, [PLAYED, STARTED, PLAYED])?;
     same("the turn", games[0].head.turn, 1)?;
     same("the turn", games[1].head.turn, 0)
+}
+
+/// What hazards cost on the cell above the first (docs/RULES.md): it is twice among those of the
+/// first game, once among those of the second, and the third has no bytes.
+const ABOVE: [u8; 18] = [0, 0, 0, 0, 0, 0, 0, 2, 0, 0, 0, 0, 0, 0, 0, 0, 1, 0];
+
+/// A step up for each game, among hazards.
+fn up_among() -> ManyOrders<'static> {
+    ManyOrders {
+        moves: &[0, 0, 0],
+        moves_each: 1,
+        words: &[],
+        words_each: 0,
+        hazards: &ABOVE,
+        hazards_each: 9,
+        damages: &[20, 99],
+    }
+}
+
+/// Compares the snakes of three games after that step.
+fn are_hurt(first: &Head, second: &Head, third: &Head) -> Result<(), Fail> {
+    same("the health", first.seats[0].health, 59)?;
+    same("the cause", first.seats[0].cause, 0)?;
+    same("the health", second.seats[0].health, 0)?;
+    same("the cause", second.seats[0].cause, 6)?;
+    same("the turn", second.seats[0].out, 1)?;
+    same("the end", second.over, 1)?;
+    same("the health", third.seats[0].health, 99)
+}
+
+#[test]
+fn small_games_among_hazards(_rt: HostRuntime) -> Result<(), Fail> {
+    let mut games = [small(), small(), small()];
+    let mut planes = [9u8; 54];
+    let started = advance_small(&mut games, &up(), &first(&[1, 1, 1]), &mut planes, 18);
+    same("the number of starts", started, 3)?;
+    step_small(&mut games, &up_among());
+    are_hurt(&games[0].head, &games[1].head, &games[2].head)
+}
+
+#[test]
+fn large_games_among_hazards(_rt: HostRuntime) -> Result<(), Fail> {
+    let mut games = [large(), large(), large()];
+    let mut planes = [9u8; 54];
+    let started = advance_large(&mut games, &up(), &first(&[1, 1, 1]), &mut planes, 18);
+    same("the number of starts", started, 3)?;
+    step_large(&mut games, &up_among());
+    are_hurt(&games[0].head, &games[1].head, &games[2].head)
 }

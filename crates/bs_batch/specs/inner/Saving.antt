@@ -10,7 +10,7 @@ use Rattle.bs_board.specs.records.Record.{cell_bytes, head_bytes, snake_record, 
 use Rattle.bs_batch.specs.declared.layout.Head.{Head}
 use Rattle.bs_batch.specs.declared.layout.Seat.{Seat}
 use Rattle.bs_batch.specs.Numbers.{numbers_of}
-use Rattle.bs_batch.specs.Saving.{IsSavedAs, digit_of}
+use Rattle.bs_batch.specs.Saving.{IsSavedAs, digit_of, without_hazards}
 use Rattle.bs_batch.specs.Shown.{ShowsSnake}
 use Rattle.bs_batch.specs.inner.Loading.{IsSeatOfEight}
 
@@ -34,7 +34,7 @@ WritesCells raised numbers at old result new =
     → WritesBytes (flat_map (cell_bytes raised) cells) at old result new
 
 abbrev pub WritesHead : Head → ℕ → List ℕ → Type 0
-WritesHead head result new = (b : Board) (food plane bodies : List ℕ) → IsSavedAs head food plane bodies b → IsWritten (head_bytes b) result new
+WritesHead head result new = (b : Board) (food plane bodies : List ℕ) → IsSavedAs head food plane bodies b → IsWritten (head_bytes (without_hazards b)) result new
 
 -- the id and the state
 abbrev pub WritesSeat : ℕ → Seat → ℕ → List ℕ → ℕ → List ℕ → Type 0

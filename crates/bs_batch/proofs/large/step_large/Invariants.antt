@@ -1,4 +1,4 @@
-use Rattle.std.proofs.Common.{◌≡◌, ℕ, ◌<◌, ◌≤◌, get_or}
+use Rattle.std.proofs.Common.{◌≡◌, ℕ, ◌<◌, ◌≤◌, get_or, slice_index}
 use Rattle.bs_batch.specs.declared.layout.LargeGame.{LargeGame}
 use Rattle.bs_batch.specs.Games.{StepsLarge, words_of}
 use Rattle.bs_batch.specs.Starting.{piece_of}
@@ -8,6 +8,7 @@ use Rattle.bs_batch.proofs.large.step_large.Given as goal
 abbrev pub invariant-loop-number : goal.invariant-loop-number
 invariant-loop-number l = record {
   played : (i : ℕ) (d : LargeGame) → i < l.number
-      → StepsLarge (piece_of l.orders.moves.now i l.orders.moves_each) (words_of l.orders.words.now i l.orders.words_each) (get_or l.fn.games i d) (get_or l.games i d);
+      → StepsLarge (piece_of l.orders.moves.now i l.orders.moves_each) (words_of l.orders.words.now i l.orders.words_each)
+      (piece_of l.orders.hazards.now i l.orders.hazards_each) (slice_index l.orders.damages.now i) (get_or l.fn.games i d) (get_or l.games i d);
   rest : (i : ℕ) (d : LargeGame) → l.number ≤ i → get_or l.games i d ≡ get_or l.fn.games i d;
 }

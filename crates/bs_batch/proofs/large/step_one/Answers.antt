@@ -8,14 +8,14 @@ returns c =
     let food : length c.args.game.now.food ≡ 625 = search rules in
     let bodies : length c.args.game.now.bodies ≡ 5032 = search rules in
     record {
-      plays = plays_game 25 c.args.orders.moves.now c.args.orders.words.now c.args.game.now.head c.args.game.now.food c.args.game.now.plane c.args.game.now.bodies
+      plays = plays_game 25 c.args.orders.moves.now c.args.orders.words.now c.args.orders.hazards.counts.now c.args.orders.hazards.damage c.args.game.now.head c.args.game.now.food c.args.game.now.plane c.args.game.now.bodies
           c.step.new.head c.step.new.food c.step.new.plane c.step.new.bodies (omega arith) (omega arith) (omega arith) (omega arith) c.step.ensures.board;
       stays = λ closed. absurd (closed (c.may_step.ensures.exactly.0 c.if-not-may_step.false));
     }
 
 pub returns-then-not-may_step : goal.returns-then-not-may_step
 returns-then-not-may_step c = record {
-  plays = plays_none 25 c.args.orders.moves.now c.args.orders.words.now c.args.game.now.head c.args.game.now.food c.args.game.now.plane c.args.game.now.bodies
+  plays = plays_none 25 c.args.orders.moves.now c.args.orders.words.now c.args.orders.hazards.counts.now c.args.orders.hazards.damage c.args.game.now.head c.args.game.now.food c.args.game.now.plane c.args.game.now.bodies
       (λ may. false≢true (sym c.if-not-may_step.true ∙ c.may_step.ensures.exactly.1 may));
   stays = λ _. refl;
 }

@@ -3,7 +3,7 @@ use Rattle.std.specs.Prelude.{is_some}
 use Rattle.bs_board.proofs.records.Longest.{side_fits}
 use Rattle.bs_batch.specs.declared.layout.Head.{Head}
 use Rattle.bs_batch.specs.Loading.{cleared}
-use Rattle.bs_batch.proofs.LoadedBoard.{can_load, no_bytes, no_hazards, none_is, room_is, shows_game}
+use Rattle.bs_batch.proofs.LoadedBoard.{can_load, no_bytes, none_is, room_is, shows_game}
 use Rattle.bs_batch.proofs.loading.load.Goals as goal
 
 pub returns-then-not-load_cells : goal.returns-then-not-load_cells
@@ -53,7 +53,7 @@ returns c can =
       exactly = (λ _. (none_is b.hazards none, record { lists = cells.fits.0 c.if-not-load_cells.false; crossings = little }), λ _. refl);
       shows = shows_game b c.settings_of-settings.result c.clear.new.head c.load_cells.new.head c.count.new.head c.load_cells.new.food c.load_cells.new.plane
           c.load_cells.new.bodies c.load_cells.result c.clear.ensures (c.settings_of-settings.ensures.board can.legal.limits.few) c.if-not-load_cells.false cells c.count.ensures.board;
-      lasts = record { legal = can.legal; plain = no_hazards b.hazards none; bodies = little };
+      lasts = record { legal = can.legal; bodies = little };
       misfit = tt;
       none = tt;
     }
