@@ -1,12 +1,19 @@
-"""Shared by tools/twins and tools/edits: parses edits, and copies crates to try them in."""
+"""The crates of the repository, what each uses, and copies of them to try changes in."""
+from __future__ import annotations
+
 import shutil
 import sys
+import tempfile
+from collections.abc import Iterator
+from contextlib import contextmanager
 from pathlib import Path
 
 ROOT = Path(__file__).resolve().parent.parent
 
+Uses = dict[str, list[str]]
 
-def dependencies():
+
+def dependencies() -> Uses:
     """The libraries of each crate of the repository, by its line in crates.txt."""
     found = {}
     for line in (ROOT / "crates.txt").read_text().splitlines():
@@ -16,7 +23,7 @@ def dependencies():
     return found
 
 
-def choose(names, uses):
+def choose(names: list[str], uses: Uses) -> list[str]:
     """The named crates, or all. Ends the program if a name is not in crates.txt."""
     unknown = [name for name in names if name not in uses]
     if unknown:
@@ -24,7 +31,7 @@ def choose(names, uses):
     return names or list(uses)
 
 
-def below(name, uses):
+def below(name: str, uses: Uses) -> list[str]:
     """The crate and the repository's crates that it depends on."""
     found = [name]
     for crate in found:
@@ -32,13 +39,13 @@ def below(name, uses):
     return found
 
 
-def copy_crate(name, uses, scratch):
+def copy_crate(name: str, scratch: Path) -> Path:
     """Copies what a check of the crate reads, with its cached proofs and the built libraries of its
     dependencies. Returns the folder of the copy."""
     if (ROOT / "HANDLES").exists():
         shutil.copy2(ROOT / "HANDLES", scratch)
     (scratch / "crates").mkdir()
-    lines = []
+    lines, uses = [], dependencies()
     for crate in below(name, uses):
         lines.append(f"{crate}: {' '.join(uses[crate])}\n")
         source = ROOT / "crates" / crate
@@ -49,25 +56,8 @@ def copy_crate(name, uses, scratch):
     return scratch / "crates" / name
 
 
-def pairs(edit):
-    """The file that an edit changes, and its pairs of old and new text."""
-    lines = [line for line in edit.read_text().splitlines() if line.strip()]
-    words = [line.split(": ", 1) for line in lines]
-    if [w[0] for w in words] != ["file"] + ["old", "new"] * (len(words) // 2):
-        sys.exit(f"{edit}: a line 'file: ', and then pairs of 'old: ' and 'new: '")
-    texts = [w[1] for w in words]
-    return texts[0], list(zip(texts[1::2], texts[2::2]))
-
-
-def apply(edit):
-    """The file that an edit changes, and its text after the edit, or None and the reason."""
-    path, changes = pairs(edit)
-    file = edit.parent.parent / path
-    if not file.exists():
-        return path, None, f"there is no file {path}"
-    text = file.read_text()
-    for old, new in changes:
-        if text.count(old) != 1:
-            return path, None, f"'old: {old}' occurs {text.count(old)} times, not once"
-        text = text.replace(old, new)
-    return path, text, None
+@contextmanager
+def copied(name: str) -> Iterator[Path]:
+    """The folder of a copy of the crate, which goes at the end."""
+    with tempfile.TemporaryDirectory(prefix=f"{name}-", ignore_cleanup_errors=True) as scratch:
+        yield copy_crate(name, Path(scratch))

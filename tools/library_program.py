@@ -43,7 +43,7 @@ def copy_crates(into):
     rows = dict(ROW.findall((ROOT / "crates.txt").read_text()))
     names = needed(rows, LIBRARY)
     for name in names:
-        ignored = shutil.ignore_patterns("out", "must-fail", "edits", "twins", "data")
+        ignored = shutil.ignore_patterns("out", "must-fail", "edits.txt", "data")
         shutil.copytree(ROOT / "crates" / name, into / "crates" / name, ignore=ignored)
     lines = [f"{name}: {below}\n" for name, below in rows.items() if name in names]
     (into / "crates.txt").write_text("".join(lines))
