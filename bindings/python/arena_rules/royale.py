@@ -11,15 +11,7 @@ import hashlib
 from typing import TYPE_CHECKING, Any, NamedTuple
 
 from arena_rules.buffers import number, numpy
-from arena_rules.library import (
-    CAUSES,
-    LAST_TURN,
-    MODES,
-    NOT_A_RECORD,
-    ArenaError,
-    check,
-    library,
-)
+from arena_rules.library import CAUSES, LAST_TURN, MODES, NOT_A_RECORD, ArenaError, check, library
 
 if TYPE_CHECKING:
     from arena_rules.games import Games
