@@ -37,7 +37,6 @@ def test_bracket_is_looked_at(
         **{"timeout": 5000, "seed": 1, "name": "Autumn cup"},
     )
     with page_of(play_here(path, program), program) as (_, address):
-        browser.complaints()
         for size in (WIDE, NARROW):
             resize(browser, size)
             browser.go(f"{address}bracket.html")
@@ -68,5 +67,6 @@ def test_bracket_is_looked_at(
             "return ['enter_part', 'seasons_link'].map((id) => document.getElementById(id).hidden)"
         )
         assert browser.run(hidden) == [True, True]
-        assert browser.complaints() == []
+        # A page of the test before may still ask for news of its ladder, which has ended.
+        assert [it for it in browser.complaints() if it.startswith(address)] == []
     resize(browser, (1500, 1250))
