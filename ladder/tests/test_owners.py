@@ -155,10 +155,14 @@ def test_answer_in_two_writes_is_not_held_up_by_its_acknowledgement() -> None:
 
 
 def test_server_of_one_thread_is_recognised_and_misses_no_move() -> None:
-    """Its second connection is not read while the first one is open."""
-    with python_server(http.server.HTTPServer) as url:
-        answers, serial = asyncio.run(asyncio.wait_for(two_games(url, 100), 120))
-    assert [it.cause for it in answers] == [None] * 200
+    """Its second connection is not read while the first one is open. By luck two games may hardly
+    ever ask at the same time: then they are played again. No game misses a move."""
+    for _ in range(3):
+        with python_server(http.server.HTTPServer) as url:
+            answers, serial = asyncio.run(asyncio.wait_for(two_games(url, 100), 120))
+        assert [it.cause for it in answers] == [None] * 200
+        if serial:
+            break
     assert serial == [url]
     assert sum(it.latency > 500 for it in answers) <= 5
 
