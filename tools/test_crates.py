@@ -9,6 +9,7 @@ UNPROVED = (
     "tests_core",
     "tests_lines",
     "tests_live",
+    "tests_plane",
     "tests_program",
     "bs_refused",
 )

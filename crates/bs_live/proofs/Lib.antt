@@ -1,3 +1,4 @@
 pub mod Blocks
 pub mod Boards
 pub mod Lines
+pub mod Newest

@@ -1,0 +1,8 @@
+pub mod Answered
+pub mod Following
+pub mod Food
+pub mod Onward
+pub mod Plane
+pub mod Turn
+pub mod Written
+pub mod inner

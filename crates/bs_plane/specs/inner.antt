@@ -1,0 +1,6 @@
+-- What private contracts cite, and no public one.
+pub mod Food
+pub mod Onward
+pub mod Plane
+pub mod Turn
+pub mod Written

@@ -1,0 +1,44 @@
+-- A turn on the plane and in bytes.
+use Rattle.std.specs.Prelude.{◌≡◌, ℕ, ◌<◌, true, None, List, [], All, flat_map, length, map}
+use Rattle.bs_board.specs.declared.boards.board.Board.{Board}
+use Rattle.bs_board.specs.declared.boards.point.Direction.{Direction}
+use Rattle.bs_board.specs.declared.limits.TheConstants.{LAST_TURN}
+use Rattle.bs_board.specs.boards.Legal.{IsLegal}
+use Rattle.bs_board.specs.commands.Orders.{Orders}
+use Rattle.bs_board.specs.commands.Setup.{is_side}
+use Rattle.bs_rules.specs.Turn.{turn_of}
+use Rattle.bs_board.specs.declared.records.layout.BoardBytes.{BoardBytes}
+use Rattle.bs_board.specs.records.Layout.{IsBoardBytes}
+use Rattle.bs_board.specs.records.Record.{record_of, snake_record}
+use Rattle.bs_board.specs.records.Writing.{IsByteCell, IsWritable}
+use Rattle.bs_plane.specs.declared.plane.Plane.{Plane}
+use Rattle.bs_plane.specs.Food.{HasFood}
+use Rattle.bs_plane.specs.Onward.{ShowsSnakes, onward}
+use Rattle.bs_plane.specs.Plane.{ShowsBoard}
+use Rattle.bs_plane.specs.Turn.{fed_onward}
+
+-- the plane and the bytes of the food, after the snakes' own turn
+abbrev pub Refills : (Board → Board) → BoardBytes → List ℕ → Plane → List ℕ → Plane → List ℕ → Type 0
+Refills more parts snakes old food new food' =
+    (b : Board) (moves : List (List ℕ × Direction)) → IsBoardBytes b parts → All (IsByteCell 0) b.food
+    → ShowsSnakes b (map (onward b moves) b.snakes) old → snakes ≡ flat_map snake_record (map (onward b moves) b.snakes)
+    → All IsWritable (map (onward b moves) b.snakes) → food ≡ [] → HasFood (more (fed_onward b moves)) new food'
+
+-- the plane can follow the turn, unless a snake goes out
+pub record MayStep (parts : BoardBytes) (orders : Orders) : Type 0 where
+  pub no_hazards : orders.hazards ≡ None
+  pub no_food : orders.food ≡ None
+  pub wide : is_side parts.width ≡ true
+  pub high : is_side parts.height ≡ true
+  pub early : parts.turn < LAST_TURN
+  pub few : parts.seats < 256
+  pub short : length parts.hazards.now < 131000
+
+-- the turn on the plane and in bytes
+pub record Plays (b : Board) (orders : Orders) (plane : Plane) (bytes : List ℕ) : Type 0 where
+  pub shows : ShowsBoard (turn_of b orders) plane
+  pub written : bytes ≡ record_of (turn_of b orders)
+
+-- the turn of the board that these are the parts of
+abbrev pub PlaysFrom : BoardBytes → Orders → Plane → Plane → List ℕ → Type 0
+PlaysFrom parts orders old new bytes = (b : Board) → IsLegal b → IsBoardBytes b parts → ShowsBoard b old → Plays b orders new bytes

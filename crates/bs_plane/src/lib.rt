@@ -1,0 +1,16 @@
+//! A turn from record to record: a plane of counts is kept beside a game, and a move in which no
+//! snake goes out is played from the bytes of the last record to those of the new one.
+#![tactic(auto)]
+
+mod answering;
+mod cell;
+mod food;
+mod law;
+mod motion;
+mod plane;
+mod stepper;
+mod writing;
+
+pub use answering::answer_move;
+pub use law::quiet_law;
+pub use stepper::Stepper;
