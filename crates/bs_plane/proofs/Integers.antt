@@ -1,5 +1,5 @@
 -- Coordinates that are not raised.
-use Rattle.std.proofs.Common.{◌≡◌, ◌+◌, ℤ, pos, nat_abs, ◌+ℤ◌, arith}
+use Rattle.std.proofs.Common.{◌≡◌, ℤ, pos, nat_abs, ◌+ℤ◌, arith}
 use Rattle.std.specs.Prelude.{◌≤ℤ◌}
 use Rattle.std.proofs.lemmas.Int.{ints}
 use Rattle.bs_board.proofs.records.Fields.{raised_again}

@@ -1,5 +1,5 @@
 -- The food after a turn, on the plane and in bytes.
-use Rattle.std.specs.Prelude.{◌≡◌, ℕ, ◌+◌, not, ◌&&◌, List, ◌++◌, filter, flat_map, All}
+use Rattle.std.specs.Prelude.{◌≡◌, ℕ, not, ◌&&◌, List, ◌++◌, filter, flat_map, All}
 use Rattle.std.specs.List.{list_any}
 use Rattle.bs_board.specs.declared.boards.board.Board.{Board}
 use Rattle.bs_board.specs.declared.boards.point.Point.{Point}

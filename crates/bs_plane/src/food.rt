@@ -1,6 +1,6 @@
 //! The food after a turn.
 
-ghost use Rattle.std.specs.Prelude.{◌≡◌, ◌≤◌, ◌<◌, ◌+◌, ◌*◌, ◌∷◌, [], false, ℕ, List, IsTrue, IfOk, IfSome, OnOk, All, count_by, flat_map, length, true, pos};
+ghost use Rattle.std.specs.Prelude.{◌≡◌, ◌<◌, ◌+◌, ◌*◌, false, List, IsTrue, IfOk, IfSome, All, count_by, flat_map, length};
 ghost use Rattle.bs_board.specs.declared.boards.board.Board.{Board as AnyBoard};
 ghost use Rattle.bs_board.specs.declared.boards.snake.Snake.{Snake as AnySnake};
 ghost use Rattle.bs_board.specs.boards.Cell.{head_of};

@@ -1,7 +1,7 @@
 //! The motion of the snakes in a turn: each record of a snake becomes that of the snake moved, fed
 //! and grown.
 
-ghost use Rattle.std.specs.Prelude.{◌≡◌, ◌+◌, ◌-◌, ◌*◌, ◌/◌, ◌<◌, ◌≤◌, ◌∷◌, ◌++◌, [], not, true, ℕ, List, All, Option, IsTrue, IfOk, IfSome, OnOk, length, slice_index_or, flat_map, take, drop, cond, false, nat_abs, pos, ◌+ℤ◌};
+ghost use Rattle.std.specs.Prelude.{◌≡◌, ◌+◌, ◌-◌, ◌<◌, ◌≤◌, ◌∷◌, ◌++◌, [], not, true, List, All, IsTrue, IfOk, IfSome, OnOk, length, slice_index_or, flat_map, take, drop, cond, false};
 ghost use Rattle.bs_board.specs.declared.boards.board.Board.{Board as AnyBoard};
 ghost use Rattle.bs_board.specs.declared.boards.snake.Snake.{Snake as AnySnake};
 ghost use Rattle.bs_board.specs.boards.Cell.{head_of, is_same_cell, origin};

@@ -1,7 +1,6 @@
 //! The plane of a board: what stands on each cell, by the index of the cell.
 
-ghost use Rattle.std.specs.Prelude.{◌≡◌, ℕ, ◌*◌, IfSome, IsTrue, OnOk};
-ghost use Rattle.bs_board.specs.declared.boards.point.Point.{Point as AnyPoint};
+ghost use Rattle.std.specs.Prelude.{IfSome, IsTrue, OnOk};
 ghost use Rattle.bs_plane.specs.Plane.{Changes, IsBlank, IsThere, TakesPart, with_food, with_foods, with_hazards, with_part, with_snakes};
 ghost use Rattle.bs_plane.specs.inner.Plane.{IsPlace, with_body, with_hazard};
 

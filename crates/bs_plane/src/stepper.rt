@@ -17,12 +17,12 @@ use bs_board::limits::{LAST_TURN, LONGEST_SIDE, MOST_SNAKES, SHORTEST_SIDE};
 use bs_board::{Board, BoardBytes, Hazards, Mode, Move, Record};
 use std::alloc::{AllocError, Global};
 
-/// The pieces of a record that is being made.
+/// The food and the snakes of a record that is being made, and all its bytes.
 #[derive(Debug, Drop)]
 pub struct Draft {
     pub food: Vec<u8>,
     pub snakes: Vec<u8>,
-    pub record: Vec<u8>,
+    pub bytes: Vec<u8>,
 }
 
 /// What is kept beside a game so that a turn is played from its last record to the next one.
@@ -103,7 +103,7 @@ fn play(
     draft: &mut Draft,
 ) -> Result<bool, AllocError>
     requires { MayStep board.now orders.now }
-    ensures { IfOk result (λ done. IsTrue done → PlaysFrom board.now orders.now plane.old plane.new draft.new.record.items) }
+    ensures { IfOk result (λ done. IsTrue done → PlaysFrom board.now orders.now plane.old plane.new draft.new.bytes.items) }
 {
     draft.snakes.clear();
     draft.food.clear();
@@ -125,7 +125,7 @@ fn play(
     if draft.food.len() >= 131_000 {
         return Ok(false);
     }
-    write_record(board, &draft.food, &draft.snakes, &mut draft.record)?;
+    write_record(board, &draft.food, &draft.snakes, &mut draft.bytes)?;
     Ok(true)
 }
 
@@ -160,7 +160,7 @@ impl Stepper {
             draft: Draft {
                 food: Vec::new(alloc),
                 snakes: Vec::new(alloc),
-                record: Vec::new(alloc),
+                bytes: Vec::new(alloc),
             },
         }
     }
@@ -205,7 +205,7 @@ impl Stepper {
         if !play(&mut self.plane, &board, orders, &mut self.draft)? {
             return Ok(None);
         }
-        let record = Record::of_bytes(alloc, &self.draft.record)?;
+        let record = Record::of_bytes(alloc, &self.draft.bytes)?;
         self.is_current = true;
         Ok(Some(record))
     }

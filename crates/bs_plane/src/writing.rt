@@ -1,12 +1,11 @@
 //! The record of the new board.
 
-ghost use Rattle.std.specs.Prelude.{◌≡◌, ◌+◌, ◌*◌, ◌/◌, ◌<◌, ◌∷◌, ◌++◌, Option, OnOk, length};
+ghost use Rattle.std.specs.Prelude.{◌≡◌, ◌+◌, ◌<◌, ◌∷◌, ◌++◌, Option, OnOk, length};
 ghost use Rattle.bs_board.specs.declared.boards.hazards.Hazards.{Hazards as AnyHazards};
 ghost use Rattle.bs_board.specs.declared.limits.TheConstants.{LAST_TURN};
 ghost use Rattle.bs_board.specs.records.Record.{hazard_bytes, mode_byte, two_bytes, version_byte};
 ghost use Rattle.bs_plane.specs.Written.{WritesNext};
-ghost use Rattle.bs_plane.specs.inner.Written.{SeesHazards};
-ghost use Rattle.bs_plane.specs.inner.Written.{next_head};
+ghost use Rattle.bs_plane.specs.inner.Written.{SeesHazards, next_head};
 
 use bs_board::limits::LAST_TURN;
 use bs_board::{BoardBytes, Mode};

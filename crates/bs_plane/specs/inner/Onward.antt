@@ -1,5 +1,5 @@
 -- The step of one snake in a turn in which it does not go out.
-use Rattle.std.specs.Prelude.{◌≡◌, ℕ, ◌+◌, ◌-◌, ◌≤◌, Bool, true, not, cond, List, [], ◌∷◌, ◌++◌, length, take, Option, None, slice_index_or}
+use Rattle.std.specs.Prelude.{◌≡◌, ℕ, ◌-◌, ◌≤◌, Bool, true, cond, List, [], ◌∷◌, ◌++◌, length, take, Option, None, slice_index_or}
 use Rattle.std.specs.List.{list_any}
 use Rattle.bs_board.specs.declared.boards.board.Board.{Board}
 use Rattle.bs_board.specs.declared.boards.board.Mode.{Mode}
@@ -13,7 +13,6 @@ use Rattle.bs_board.specs.boards.Over.{is_living}
 use Rattle.bs_board.specs.records.Layout.{IsSnakeBytes, cells_of}
 use Rattle.bs_board.specs.records.Writing.{IsWritable}
 use Rattle.bs_rules.specs.Feeding.{last_of}
-use Rattle.bs_rules.specs.Motion.{moved}
 use Rattle.bs_plane.specs.declared.cell.Cell.{Cell}
 use Rattle.bs_plane.specs.declared.motion.Step.{Step}
 use Rattle.bs_plane.specs.declared.plane.Plane.{Plane}
@@ -21,7 +20,6 @@ use Rattle.bs_plane.specs.Plane.{Shows}
 use Rattle.bs_plane.specs.inner.Plane.{with_body}
 use Rattle.bs_board.specs.records.Record.{snake_record}
 use Rattle.bs_plane.specs.Onward.{grown_in, onward_by, LivesOn}
-use Rattle.bs_plane.specs.inner.Plane.{with_body}
 
 -- a snake with full health that ate, with its last part once more
 abbrev pub fed_by : Bool → Snake → Snake

@@ -4,7 +4,6 @@ use Rattle.bs_board.specs.declared.boards.point.Point.{Point}
 use Rattle.bs_board.specs.boards.Cell.{cell_index, is_on_board, is_same_cell}
 use Rattle.bs_plane.specs.declared.cell.Cell.{Cell}
 use Rattle.bs_plane.specs.declared.plane.Plane.{Plane}
-use Rattle.bs_plane.specs.Plane.{contents}
 
 -- the index of a cell of the board
 pub record IsPlace (plane : Plane) (cell : Point) (place : ℕ) : Type 0 where

@@ -1,5 +1,4 @@
-use Rattle.std.proofs.Common.{◌≡◌, true, false, not, ◌&&◌, refl}
-use Rattle.bs_board.specs.boards.Wrap.{wrap_of}
+use Rattle.std.proofs.Common.{◌≡◌, false, not, ◌&&◌, refl}
 use Rattle.bs_plane.proofs.Steps.{advanced_is_moved, is_step, some_weaker}
 use Rattle.bs_plane.proofs.motion.step_of.Goals as goal
 use Rattle.bs_plane.proofs.motion.step_of.Goals.{else-there-via-then-there+else-not-there, else-there-via-else-there}
