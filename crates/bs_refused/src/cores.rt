@@ -1,8 +1,8 @@
-//! A tally; and a core whose stays are admitted and leave, and whose commands are queued, taken,
-//! run and completed.
+//! A tally; and a core whose stays are admitted and leave, and whose commands are queued, and are
+//! answered job by job or where they are.
 use crate::fault::Fault;
 use crate::page::Page;
-use crate::play::{CAP, Job, commands, hand, opened, put_job, take};
+use crate::play::{CAP, Job, answer_next, commands, hand, opened, put_job, take};
 use crate::scene::{Act, Question, look, tried};
 use crate::values::{bytes_of, row_of};
 use bs_board::{Board, Command, Row};
@@ -159,6 +159,25 @@ impl Act for Taking {
     }
 }
 
+/// `Core::answer_here`, by the caller's own worker: whether there was a command.
+struct Answering;
+
+impl Act for Answering {
+    type State = Core<CAP>;
+
+    type Seen = Seen;
+
+    type Answer = bool;
+
+    fn readers(alloc: Global, state: &Core<CAP>) -> Result<Seen, Fault> {
+        seen_core(alloc, state)
+    }
+
+    fn call(&self, alloc: Global, state: &mut Core<CAP>) -> Result<bool, Fault> {
+        answer_next(alloc, state, 0)
+    }
+}
+
 /// `Core::board`, which changes nothing.
 #[derive(Drop)]
 struct ReadBoard {
@@ -274,6 +293,29 @@ fn play_commands(page: &mut Page, core: &mut Core<CAP>) -> Result<(), Fail> {
 pub fn play_core(page: &mut Page) -> Result<(), Fail> {
     let mut core = opened(page.alloc(), 6)?;
     play_commands(page, &mut core)
+}
+
+/// Answers commands where they are until none is left.
+fn answer_on(page: &mut Page, core: &mut Core<CAP>) -> Result<(), Fault> {
+    for _ in 0..40u32 {
+        if !tried(page, &Answering, core)? {
+            return Ok(());
+        }
+    }
+    Err(Fault::Busy)
+}
+
+fn answer_commands(page: &mut Page, core: &mut Core<CAP>) -> Result<(), Fail> {
+    let commands = commands(page.alloc())?;
+    hand_all(page, core, commands.as_slice())?;
+    answer_on(page, core)?;
+    Ok(try_board(page, core, 0)?)
+}
+
+/// `Core::answer_here`: all commands, each where it is, until none is left.
+pub fn play_here(page: &mut Page) -> Result<(), Fail> {
+    let mut core = opened(page.alloc(), 6)?;
+    answer_commands(page, &mut core)
 }
 
 /// Plays a game in the stay.

@@ -69,6 +69,18 @@ pub fn take(alloc: Global, core: &mut Core<CAP>, worker: usize) -> Result<Option
     }
 }
 
+/// Answers the next command as that worker, where it is. Returns whether there was one.
+pub fn answer_next(alloc: Global, core: &mut Core<CAP>, worker: usize) -> Result<bool, Fault> {
+    if worker > core.workers() {
+        return Err(Fault::NoWorker);
+    }
+    let Some(next) = core.next_command(worker) else {
+        return Ok(false);
+    };
+    core.answer_here(alloc, worker, next.game as usize)?;
+    Ok(true)
+}
+
 /// Completes a part that was run; the last part completes them all.
 fn put_part(core: &mut Core<CAP>, done: Done<CAP>, key: PartKey<Done<CAP>>) -> Result<(), Fault> {
     if key.part() != done.part() {

@@ -6,7 +6,7 @@ use crate::boards::{
     CopyBoard, CopyCommand, CopyId, CopyPlan, CopyReply, DecodeSnake, Decoding, Encoding, Keep,
     KeepBytes, MakeId, OpenRows, PushCells, PushMoves, Unkeep, id_of, new_of, orders_of,
 };
-use crate::cores::{OpenCore, OpenTally, play_core, play_stays};
+use crate::cores::{OpenCore, OpenTally, play_core, play_here, play_stays};
 use crate::games::{Answered, Joined, first_new, first_turn, new_while_running, of_running};
 use crate::jobs::{play_failed, worked};
 use crate::live::PlayStay;
@@ -310,6 +310,13 @@ fn open(rt: HostRuntime) -> Result<(), Fail> {
 fn core(rt: HostRuntime) -> Result<(), Fail> {
     let mut page = page_of(&rt);
     play_core(&mut page)?;
+    page.close()
+}
+
+#[test]
+fn core_here(rt: HostRuntime) -> Result<(), Fail> {
+    let mut page = page_of(&rt);
+    play_here(&mut page)?;
     page.close()
 }
 

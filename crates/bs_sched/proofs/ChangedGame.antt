@@ -53,7 +53,7 @@ open_at_work cap c is busy = open_busy c.fiber is.quiet (not_quiet c.fiber busy)
 
 -- the heap of an open stay keeps the records of its boards
 
-kept_open : (x : Lane) → x.is_open ≡ true → kept_of x ≡ records_of x.game
+pub kept_open : (x : Lane) → x.is_open ≡ true → kept_of x ≡ records_of x.game
 kept_open x stands = cond-true x.is_open (records_of x.game) [] stands
 
 pub keeps_boards : (cap : ℕ) {at : ℕ} (c : Inside at) → IsGame cap c → c.fiber.is_open ≡ true → KeepsBoards (lane_at c) c.heap

@@ -187,7 +187,7 @@ part_there x p ready =
           absurd cc
     ]
 
-same_worker : (worker : ℕ) → nat_eq worker worker ≡ true
+pub same_worker : (worker : ℕ) → nat_eq worker worker ≡ true
 same_worker worker = eq-eqb worker worker refl
 
 pub out_taken : (x : Lane) (worker : ℕ) (k : JobKind) (p : ℕ) → is_ready x k p ≡ true → is_out worker (with_taken worker k p x) k p ≡ true

@@ -121,7 +121,7 @@ run_more cap core e is enabled =
     more ∙ ap (λ before. games_step setting before e) is.games ∙ goes
 
 -- no event changes the number of blocks
-same_setting : (cap : ℕ) (core : CoreView) (e : Event) → IsItsJournal cap core → is_enabled (setting_in cap core) core.games.lanes e ≡ true → HandsFit e
+pub same_setting : (cap : ℕ) (core : CoreView) (e : Event) → IsItsJournal cap core → is_enabled (setting_in cap core) core.games.lanes e ≡ true → HandsFit e
     → setting_in cap (core_after cap core e) ≡ setting_in cap core
 same_setting cap core e is enabled fits =
     let events = core.journal ++ e ∷ [] in

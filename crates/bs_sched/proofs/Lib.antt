@@ -65,3 +65,10 @@ pub mod PlacedGame
 pub mod Merged
 pub mod PutTogether
 pub mod RanAlone
+pub mod NotedJobs
+pub mod NextParts
+pub mod Behind
+pub mod HereRun
+pub mod HereLanes
+pub mod NextAnswer
+pub mod ShownAnswers

@@ -1,4 +1,5 @@
 pub mod Registry
+pub mod Answering
 pub mod Assembly
 pub mod Coming
 pub mod Game

@@ -1,4 +1,6 @@
 -- What private contracts cite, and no public one.
+pub mod Answering
+pub mod Answers
 pub mod Assembling
 pub mod Busy
 pub mod FrameEffects

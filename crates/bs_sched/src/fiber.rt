@@ -7,9 +7,10 @@ ghost use Rattle.bs_board.specs.records.Record.{record_of};
 ghost use Rattle.bs_fiber.specs.Work.{parts_of};
 ghost use Rattle.bs_game.specs.Answer.{Fits};
 ghost use Rattle.bs_sched.specs.inner.LastBoards.{last_after};
+ghost use Rattle.bs_sched.specs.inner.Turns.{AreMoveParts};
 
 use crate::stage::Stage;
-use bs_board::limits::MOST_QUOTA;
+use bs_board::limits::{LAST_TURN, MOST_QUOTA};
 use bs_board::{Command, KeptBoard, Record, Reply, Row};
 use bs_fiber::{JobKind, QueuedCommand, SharedCommand};
 use bs_game::{Answer, Effect};
@@ -79,6 +80,7 @@ fn change_last(last: &mut Option<KeptBoard>, effect: Effect)
 /// is over.
 fn parts_of_record(last: &Record) -> Option<usize>
     ensures value { (b : AnyBoard) → last.now ≡ record_of b → MatchOption result (is_over b ≡ true) (λ parts. parts ≡ parts_of (length b.snakes)) }
+    ensures runs { (b : AnyBoard) → last.now ≡ record_of b → IfSome result (λ parts. is_over b ≡ false) }
     ensures few { IfSome result (λ parts. (1 ≤ parts) × (parts ≤ 4)) }
 {
     if last.is_over() {
@@ -88,11 +90,23 @@ fn parts_of_record(last: &Record) -> Option<usize>
     Some((last.seats() + 1) / 2)
 }
 
+/// The number of parts of a move on the board of the record; 0 if the move is refused there.
+fn parts_on(last: &Record) -> usize
+    ensures value { (b : AnyBoard) → last.now ≡ record_of b → AreMoveParts b result }
+    ensures few { result ≤ 4 }
+{
+    match parts_of_record(last) {
+        None => 0,
+        Some(parts) => if last.turn() >= LAST_TURN { 0 } else { parts },
+    }
+}
+
 impl Fiber {
     ghost use Rattle.std.specs.Prelude.{[], ◌++◌, ◌∷◌, nat_eq, take, drop, map, Option, slice_get};
     ghost use Rattle.bs_fiber.specs.declared.job.JobKind.TheVariants as kind;
     ghost use Rattle.bs_fiber.specs.Work.{parts_of, snakes_in};
     ghost use Rattle.bs_game.specs.Game.{game_charge, last_board};
+    ghost use Rattle.bs_sched.specs.Answering.{AreNextParts};
     ghost use Rattle.bs_sched.specs.Lane.{empty_lane, closed_lane, no_lane, with_waiting, with_taken, with_put, answered, is_ready, is_out, occupies, lane_command, lane_outcome, goes_on, is_idle, is_in_parts, is_quiet};
     ghost use Rattle.bs_sched.specs.inner.Lane.{HasNoneReady};
     ghost use Rattle.bs_sched.specs.inner.Insides.{IsRightWithParts};
@@ -309,6 +323,21 @@ impl Fiber {
         ensures { result ≡ is_quiet self.now }
     {
         self.stage == Stage::Idle && self.begun == self.commands.len()
+    }
+
+    /// The number of parts that the next command will have: 0 unless it is a move that is not
+    /// refused before its board is known.
+    pub(crate) fn next_parts(&self) -> usize
+        requires { 0 < length self.now.waiting }
+        ensures { AreNextParts self.now result }
+    {
+        if !self.next().is_move() {
+            return 0;
+        }
+        match self.last_record() {
+            None => 0,
+            Some(last) => parts_on(last),
+        }
     }
 
     /// Whether some part of the move is not completed.

@@ -1,6 +1,6 @@
 //! One stay of the core: its fiber, the heap of its records and the parts of its move. Clauses see
 //! its lane, the places of its records and its frames.
-ghost use Rattle.std.specs.Prelude.{◌≡◌, ◌≢◌, ◌<◌, ◌≤◌, ◌*◌, ◌↔◌, ◌∷◌, IsTrue, ℕ, All, AllPairs, true, false, [], length, map, slice_get, slice_index_or, Some, MatchOption, option_map, IfOk, OnOk, OnErr};
+ghost use Rattle.std.specs.Prelude.{◌≡◌, ◌≢◌, ◌<◌, ◌≤◌, ◌*◌, ◌↔◌, ◌∷◌, IsTrue, ℕ, List, All, AllPairs, true, false, [], length, map, slice_get, slice_index_or, Some, MatchOption, option_map, IfOk, OnOk, OnErr};
 ghost use Rattle.bs_board.specs.declared.limits.TheConstants.{MOST_QUOTA};
 ghost use Rattle.bs_board.specs.records.Record.{record_of};
 ghost use Rattle.bs_fiber.specs.Expected.{IsLegalAsked, IsOf};
@@ -12,11 +12,11 @@ ghost use Rattle.bs_game.specs.Game.{game_charge, last_board};
 ghost use Rattle.bs_game.specs.View.{answer_of};
 ghost use Rattle.bs_game.specs.Law.{IsFitEffect, effected};
 ghost use Rattle.bs_heap.specs.Charge.{charge_of, blocks_for};
-ghost use Rattle.bs_heap.specs.HeldBlocks.{IsKeptIn, LeavesOthers, all_given, next_number};
+ghost use Rattle.bs_heap.specs.HeldBlocks.{Holds, IsKeptIn, LeavesOthers, all_given, next_number};
 ghost use Rattle.bs_heap.specs.Packing.{numbers_of};
 ghost use Rattle.bs_pool.specs.Ledger.{Ledger, drawn, reserved};
 ghost use Rattle.bs_sched.specs.Courses.{IsRight};
-ghost use Rattle.bs_sched.specs.inner.Frames.{LeavesBut, pool_taken};
+ghost use Rattle.bs_sched.specs.inner.Frames.{LeavesBut, idle_frames, pool_taken};
 ghost use Rattle.bs_sched.specs.inner.Game.{HasBlocks, IsAnswering, IsOwnTicket, IsTicketOf, answered_game, closed_game, completed_game, forked_game, game_with_part, handed_game, opened_game, own_names, pool_answered, pool_completed, taken_game};
 ghost use Rattle.bs_sched.specs.Inputs.{input_for};
 ghost use Rattle.bs_sched.specs.inner.Assembling.{renamed_game};
@@ -25,12 +25,15 @@ ghost use Rattle.bs_sched.specs.Keyed.{IsKeyAt, IsKeyOf};
 ghost use Rattle.bs_sched.specs.inner.Keyed.{HasKeys};
 ghost use Rattle.bs_sched.specs.Lane.{goes_on, is_idle, is_in_parts, is_out, is_quiet, is_ready, kept_of, lane_command, lane_view, may_leave, with_taken};
 ghost use Rattle.bs_sched.specs.inner.Lane.{HasNoneReady};
+ghost use Rattle.bs_sched.specs.Answering.{AreNextParts, next_answer};
+ghost use Rattle.bs_sched.specs.inner.Answering.{game_here, number_behind, pool_here};
 ghost use Rattle.bs_sched.specs.Storage.{packing_after, pool_after};
 ghost use Rattle.bs_sched.specs.inner.Turns.{FindsTurn};
 
+use crate::answers::answer_expected;
 use crate::cores::LEAST_CAPACITY;
 use crate::fiber::Fiber;
-use crate::parts::MoveParts;
+use crate::parts::{MoveParts, draw_frames, give_all};
 use crate::plan_blocks::record_tag;
 use crate::stage::MOST_PARTS;
 use bs_board::{Board, KeptBoard, Reply, Row, TurnNumber};
@@ -551,6 +554,60 @@ impl<const CAP: usize> Game<CAP> {
         change_records(&mut self.heap, pool, &answer.effect);
         self.fiber.answer(answer);
         self.parts.give_back(blocks, pool);
+    }
+
+    /// The number of parts that the next command will have, 0 if it is no move that goes on.
+    pub(crate) fn next_parts(&self) -> usize
+        requires { 0 < length self.now.lane.waiting }
+        ensures { AreNextParts self.now.lane result }
+    {
+        self.fiber.next_parts()
+    }
+
+    /// The answer to the next command.
+    fn next_answer(&self, alloc: Global) -> Result<Answer, AllocError>
+        requires { is_ready self.now.lane kind.Begin 0 ≡ true }
+        ensures { IfOk result (λ answer. answer ≡ next_answer self.now.lane) }
+    {
+        let job = JobName {
+            kind: JobKind::Begin,
+            game: 0,
+            part: 0,
+        };
+        self.keeps();
+        let expected = self.expected(self.fiber.next(), self.fiber.next_seq(), 0, job);
+        answer_expected(alloc, &expected)
+    }
+
+    /// Answers the next command at once. While the records change, a block is drawn for each part
+    /// that its move would have. After an error nothing is changed.
+    pub(crate) fn answer_here(
+        &mut self,
+        alloc: Global,
+        pool: &mut Pool<CAP>,
+        parts: usize,
+    ) -> Result<(), AllocError>
+        requires ready { is_ready self.old.lane kind.Begin 0 ≡ true }
+        requires few { parts ≤ 4 }
+        requires blocks { HasBlocks CAP self.old pool.old }
+        ensures game { OnOk result (self.new ≡ game_here CAP (number_behind self.old.frames.tag parts pool.old) self.old) }
+        ensures pool { OnOk result (pool.new ≡ pool_here CAP parts self.old pool.old) }
+        ensures idle { self.old.frames ≡ idle_frames self.old.frames.tag self.old.frames.tally }
+        ensures blocks { HasBlocks CAP self.new pool.new }
+        ensures others { LeavesBut self.old.tag self.old.frames.tag pool.old pool.new }
+        ensures err { OnErr result (self.new ≡ self.old) }
+        ensures err_pool { OnErr result (pool.new ≡ pool.old) }
+    {
+        let answer = self.next_answer(alloc)?;
+        let mut frames = Vec::with_capacity(alloc, parts)?;
+        self.heap.grow_index()?;
+        self.fiber.begin(0)?;
+        self.fiber.keeps();
+        draw_frames(pool, self.parts.tag(), parts, &mut frames);
+        change_records(&mut self.heap, pool, &answer.effect);
+        give_all(&mut frames, pool);
+        self.fiber.answer(answer);
+        Ok(())
     }
 
     /// Completes a job that was out.

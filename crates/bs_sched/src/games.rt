@@ -1,6 +1,6 @@
 //! All stays of a core, and the pool of their blocks. Clauses see them as lanes and as the places
 //! of their records.
-ghost use Rattle.std.specs.Prelude.{◌≡◌, ◌+◌, ◌≤◌, ◌<◌, ◌∷◌, ◌++◌, [], true, false, All, length, OnOk, OnErr, IfOk, IfErr, MatchOption, ◌↔◌, IsTrue, ℕ, List, None, slice_index_or};
+ghost use Rattle.std.specs.Prelude.{◌≡◌, ◌+◌, ◌≤◌, ◌<◌, ◌∷◌, ◌++◌, [], true, false, All, length, OnOk, OnErr, IfOk, IfErr, MatchOption, ◌↔◌, IsTrue, ℕ, List, None, slice_index_or, slice_set};
 ghost use Rattle.std.specs.List.{list_all, list_any};
 ghost use Rattle.bs_board.specs.plans.Plan.{IsFitPlan, is_fit_row};
 ghost use Rattle.bs_pool.specs.Ledger.{free, opened as new_pool, size};
@@ -10,7 +10,7 @@ ghost use Rattle.bs_sched.specs.inner.Games.{games_completed};
 ghost use Rattle.bs_sched.specs.inner.GamesLayout.{lanes_in, numbers_in, opened_games};
 ghost use Rattle.bs_sched.specs.inner.Assembling.{AreLedTo, ArePlaced, IsOnly, games_of};
 ghost use Rattle.bs_sched.specs.declared.event.Event.{Event};
-ghost use Rattle.bs_sched.specs.Lane.{is_quiet, is_ready, is_out, lane_view, lane_command, may_leave};
+ghost use Rattle.bs_sched.specs.Lane.{answered, is_quiet, is_ready, is_out, lane_view, lane_command, may_leave};
 ghost use Rattle.bs_sched.specs.inner.Lane.{HasNoneReady};
 ghost use Rattle.bs_sched.specs.Machine.{lane_of, may_admit};
 ghost use Rattle.bs_sched.specs.declared.event.Event.TheVariants as event;
@@ -23,6 +23,9 @@ ghost use Rattle.bs_sched.specs.Registry.{capacity_of, registry_of};
 ghost use Rattle.bs_sched.specs.PlanBlocks.{reservations_of, with_row};
 ghost use Rattle.bs_sched.specs.declared.opening.Open.TheVariants as cause;
 ghost use Rattle.bs_fiber.specs.Tickets.{IsFresh, bytes_of, frames_in, names_of, worked_bytes};
+ghost use Rattle.bs_sched.specs.Answering.{AreNextParts, answer_events, begun};
+ghost use Rattle.bs_sched.specs.inner.Answering.{games_after};
+ghost use Rattle.bs_fiber.specs.declared.job.JobKind.TheVariants as kind;
 ghost use Rattle.bs_sched.specs.Inputs.{input_of, names_for};
 ghost use Rattle.bs_sched.specs.Keyed.{IsKeyOf};
 ghost use Rattle.bs_sched.specs.inner.Taking.{AreNoneOpenReady, AreNoneReadyBetween, IsReadyJob};
@@ -473,6 +476,33 @@ impl<const CAP: usize> Games<CAP> {
         ensures err { OnErr result (self.new ≡ self.old) }
     {
         self.list[job.game as usize].take(alloc, &mut self.pool, worker, job, spent)
+    }
+
+    /// The number of parts that the next command of the stay will have, 0 if it is no move that
+    /// goes on.
+    pub(crate) fn next_parts(&self, game: usize) -> usize
+        requires game { game < length self.now.lanes }
+        requires waits { 0 < length (lane_of self.now.lanes game).waiting }
+        ensures { AreNextParts (lane_of self.now.lanes game) result }
+    {
+        self.list[game].next_parts()
+    }
+
+    /// Answers the next command of the stay at once. After an error nothing is changed.
+    pub(crate) fn answer_here(
+        &mut self,
+        alloc: Global,
+        game: usize,
+        parts: usize,
+    ) -> Result<(), AllocError>
+        requires game { game < length self.old.lanes }
+        requires ready { is_ready (lane_of self.old.lanes game) kind.Begin 0 ≡ true }
+        requires parts { AreNextParts (lane_of self.old.lanes game) parts }
+        ensures ok { OnOk result ((worker : ℕ) → self.new ≡ games_after CAP self.old (answer_events worker game parts)) }
+        ensures lanes { OnOk result (self.new.lanes ≡ slice_set self.old.lanes game (answered (begun (lane_of self.old.lanes game)))) }
+        ensures err { OnErr result (self.new ≡ self.old) }
+    {
+        self.list[game].answer_here(alloc, &mut self.pool, parts)
     }
 
     /// Completes a job that was out.

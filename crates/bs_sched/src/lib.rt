@@ -2,6 +2,8 @@
 //! commands; their records; and the journal of all events.
 #![tactic(auto)]
 
+mod answering;
+mod answers;
 mod assembling;
 mod busy;
 mod cores;
@@ -24,6 +26,7 @@ mod stage;
 mod stays;
 mod taking;
 
+pub use answering::NextCommand;
 pub use bs_registry::{MOST_STAYS, blocks_of, blocks_of_all};
 pub use cores::{Core, Counts, LEAST_CAPACITY, MOST_WORKERS};
 pub use event::Event;

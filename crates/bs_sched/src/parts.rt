@@ -11,6 +11,7 @@ ghost use Rattle.bs_pool.specs.Ledger.{held, reserved, drawn};
 ghost use Rattle.bs_sched.specs.declared.parts.Part.TheVariants as field;
 ghost use Rattle.bs_sched.specs.inner.MoveParts.{frames_of, no_parts, part_completed, part_taken, parts_begun, parts_forked, parts_idle, parts_joined, ready_part, states_of};
 ghost use Rattle.bs_sched.specs.PartState as state;
+ghost use Rattle.bs_sched.specs.inner.Answering.{frame_numbers, with_frames};
 ghost use Rattle.bs_sched.specs.inner.PartsLayout.{block_in, is_ready_part, joined, number_in, part_in, pieces_in, state_in};
 ghost use Rattle.bs_sched.specs.Frames.{Written, flattened};
 ghost use Rattle.bs_sched.specs.Keyed.{IsKeyAt};
@@ -156,8 +157,30 @@ fn join_all<const CAP: usize>(
     }
 }
 
+/// Draws that many blocks for the tag, which has none.
+pub(crate) fn draw_frames<const CAP: usize>(
+    pool: &mut Pool<CAP>,
+    tag: u32,
+    count: usize,
+    frames: &mut Vec<Owned<CAP>>,
+)
+    requires none { frames.old.items ≡ [] }
+    requires room { count ≤ vec_capacity frames.old }
+    requires held { Holds tag [] pool.old }
+    requires reserved { count ≤ reserved tag pool.old }
+    ensures names { names_of (frames_in frames.new.items) ≡ map (λ n. (tag, n)) (frame_numbers tag count pool.old) }
+    ensures pool { pool.new ≡ with_frames tag count pool.old }
+    ensures kept { Holds tag (frame_numbers tag count pool.old) pool.new }
+    ensures others { LeavesOthers tag pool.old pool.new }
+{
+    for _frame in 0..count {
+        let owned = draw_block(pool, tag);
+        frames.push_reserved(owned);
+    }
+}
+
 /// Gives the blocks back to the pool, the last one first.
-fn give_all<const CAP: usize>(blocks: &mut Vec<Owned<CAP>>, pool: &mut Pool<CAP>)
+pub(crate) fn give_all<const CAP: usize>(blocks: &mut Vec<Owned<CAP>>, pool: &mut Pool<CAP>)
     requires { AreLent blocks.old.items pool.old }
     ensures none { blocks.new.items ≡ [] }
     ensures given { pool.new ≡ all_given (owned_numbers blocks.old.items) pool.old }
@@ -376,6 +399,13 @@ impl<const CAP: usize> MoveParts<CAP> {
         ensures { self.new ≡ record self.old { tag = tag } }
     {
         self.tag = tag;
+    }
+
+    /// The tag of the parts' frame blocks.
+    pub(crate) fn tag(&self) -> u32
+        ensures { result ≡ self.now.tag }
+    {
+        self.tag
     }
 
     /// The number of parts; 0 if no move is in progress.

@@ -60,7 +60,7 @@ impl<const CAP: usize> Core<CAP> {
 
     /// Finds a job for the worker: in its last game while that has a ready job, because that game's
     /// records lie in the processor's cache; then in the later games, then in the earlier ones.
-    fn find(&self, worker: usize) -> Found
+    pub(crate) fn find(&self, worker: usize) -> Found
         requires { worker ≤ self.now.games.workers }
         ensures { FindsJob worker self.now.games.lanes result }
     {

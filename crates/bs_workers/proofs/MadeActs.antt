@@ -1,16 +1,19 @@
 -- What a thread that has the core alone does to it, call by call.
-use Rattle.std.proofs.Common.{◌≡◌, ℕ, ◌+◌, ◌<◌, ◌≤◌, List, [], ◌∷◌, ◌++◌, length, take, get_or, Option, Some, None, refl, sym, ap, subst, ◌∙◌}
+use Rattle.std.proofs.Common.{◌≡◌, ℕ, ◌+◌, ◌<◌, ◌≤◌, Bool, true, false, if◌then◌else◌, List, [], ◌∷◌, ◌++◌, length, map, take, get_or, Option, None, refl, sym, ap, subst, ◌∙◌}
+use Rattle.std.specs.Prelude.{nat_eq}
+use Rattle.std.specs.List.{cons_option, range_with_len}
 use Rattle.std.proofs.lemmas.List.{append-nil, append_assoc, take_all, take_more}
 use Rattle.bs_board.specs.plans.Plan.{GameRow}
-use Rattle.bs_counter.specs.Keys.{TallyId}
-use Rattle.bs_fiber.specs.Tickets.{TicketView}
-use Rattle.bs_fiber.specs.declared.job.JobName.{JobName}
 use Rattle.bs_sched.specs.declared.event.Event.{Event}
 use Rattle.bs_sched.specs.declared.event.Event.TheVariants as event
-use Rattle.bs_sched.specs.Core.{CoreView, core_after, core_taken, opened_core}
-use Rattle.bs_sched.specs.Parts.{core_run, puts_of}
+use Rattle.bs_sched.specs.Core.{CoreView, core_after, opened_core}
+use Rattle.bs_sched.specs.Answering.{answer_events, job_events, join_job, move_events, part_puts, part_takes}
+use Rattle.bs_sched.specs.Games.{GamesView, after}
+use Rattle.bs_sched.specs.Parts.{core_run, part_job}
+use Rattle.bs_sched.specs.inner.Answering.{games_after}
+use Rattle.bs_sched.proofs.HereLanes.{core_runs}
 use Rattle.bs_workers.specs.declared.act.Act.{Act}
-use Rattle.bs_workers.specs.Run.{acts_of}
+use Rattle.bs_workers.specs.Run.{act_of, acts_of}
 use Rattle.bs_workers.specs.inner.Making.{Makes}
 use Rattle.bs_workers.proofs.Acted.{acts_append}
 
@@ -20,16 +23,6 @@ pub makes_event : (cap : ℕ) (old new : CoreView) (e : Event) → new ≡ core_
 makes_event cap old new e after =
     record {
       added = e ∷ [];
-      journal = ap (λ (c : CoreView). c.journal) after;
-      acted = refl;
-      workers = ap (λ (c : CoreView). c.games.workers) after;
-    }
-
-pub makes_taken : (cap : ℕ) (old new : CoreView) (worker : ℕ) (job : JobName) (tallies : List (Option TallyId))
-    → new ≡ core_taken cap old worker job tallies → Makes [] old new
-makes_taken cap old new worker job tallies after =
-    record {
-      added = event.Take worker job ∷ [];
       journal = ap (λ (c : CoreView). c.journal) after;
       acted = refl;
       workers = ap (λ (c : CoreView). c.games.workers) after;
@@ -55,13 +48,38 @@ makes_both some more old between new first second =
 pub makes_after : (acts : List Act) (old between new : CoreView) → Makes [] old between → Makes acts between new → Makes acts old new
 makes_after acts old between new first second = makes_both [] acts old between new first second
 
-pub makes_puts : (cap : ℕ) (old : CoreView) (parts : List (Option TicketView)) → Makes [] old (core_run cap old (puts_of parts))
-makes_puts cap old [] = makes_none old
-makes_puts cap old (None ∷ parts) = makes_puts cap old parts
-makes_puts cap old (Some done ∷ parts) =
-    let e = event.Put done.input.worker done.input.job in
-    let next = core_after cap old e in
-    makes_both [] [] old next (core_run cap next (puts_of parts)) (makes_event cap old next e refl) (makes_puts cap next parts)
+-- a command that is answered where it is makes no act
+
+nothing_made : (f : ℕ → Event) (numbers : List ℕ) → ((p : ℕ) → act_of (f p) ≡ None) → acts_of (map f numbers) ≡ []
+nothing_made f [] none = refl
+nothing_made f (p ∷ numbers) none =
+    ap (λ (made : Option Act). cons_option made (acts_of (map f numbers))) (none p) ∙ nothing_made f numbers none
+
+jobs_make_nothing : (worker game parts : ℕ) (some : Bool) → acts_of (if some then [] else move_events worker game parts) ≡ []
+jobs_make_nothing worker game parts true = refl
+jobs_make_nothing worker game parts false =
+    let takes = part_takes worker game parts in
+    let puts = part_puts worker game parts in
+    let join = job_events worker (join_job game) in
+    acts_append takes (puts ++ join)
+    ∙ ap (λ (acts : List Act). acts ++ acts_of (puts ++ join)) (nothing_made (λ p. event.Take worker (part_job game p)) (range_with_len 0 parts) (λ p. refl))
+    ∙ acts_append puts join
+    ∙ ap (λ (acts : List Act). acts ++ acts_of join) (nothing_made (λ p. event.Put worker (part_job game p)) (range_with_len 0 parts) (λ p. refl))
+
+workers_after : (cap : ℕ) (games : GamesView) (events : List Event) → (games_after cap games events).workers ≡ games.workers
+workers_after cap games [] = refl
+workers_after cap games (e ∷ events) = workers_after cap (after cap games e) events
+
+pub makes_here : (cap : ℕ) (old new : CoreView) (worker game parts : ℕ) → new ≡ core_run cap old (answer_events worker game parts) → Makes [] old new
+makes_here cap old new worker game parts is =
+    let events = answer_events worker game parts in
+    let runs = is ∙ core_runs cap old events in
+    record {
+      added = events;
+      journal = ap (λ (c : CoreView). c.journal) runs;
+      acted = jobs_make_nothing worker game parts (nat_eq parts 0);
+      workers = ap (λ (c : CoreView). c.games.workers) runs ∙ workers_after cap old.games events;
+    }
 
 pub makes_next : (acts : List Act) (i : ℕ) (next : Act) (old between new : CoreView) → i < length acts → next ≡ get_or acts i next
     → Makes (take i acts) old between → Makes (next ∷ []) between new → Makes (take (i + 1) acts) old new

@@ -1,13 +1,9 @@
 //! A run on the calling thread alone. Nothing else has the core, so what each call does to it is
-//! known: the acts need no comparison, and of the results only those of parts are compared, which
-//! come out of a tally.
+//! known, and each command is answered where it is: the acts need no comparison.
 ghost use Rattle.std.specs.Prelude.{◌≡◌, ◌≤◌, ◌∷◌, ◌++◌, [], IfOk, OnOk, IsTrue, map};
 ghost use Rattle.std.specs.List.{filter_map};
-ghost use Rattle.bs_fiber.specs.Tickets.{IsFresh};
-ghost use Rattle.bs_fiber.specs.PartOf.{part_of};
 ghost use Rattle.bs_pool.specs.Ledger.{size};
 ghost use Rattle.bs_sched.specs.Core.{opened_core};
-ghost use Rattle.bs_sched.specs.Putting.{IsOwn};
 ghost use Rattle.bs_sched.specs.declared.event.Event.TheVariants as event;
 ghost use Rattle.bs_workers.specs.Acts.{command_in};
 ghost use Rattle.bs_workers.specs.Run.{IsRunOf};
@@ -20,18 +16,14 @@ use crate::compare::{copy_rows, has_ended_run};
 use crate::fault::Run;
 use crate::gate::Gate;
 use crate::places::Places;
-use arrayvec::ArrayVec;
 use bs_board::Row;
-use bs_counter::{Finish, PartKey};
-use bs_fiber::{Done, Handles, JobName, Ticket, work};
-use bs_sched::{Admit, Core, Leave, Taken};
+use bs_fiber::{Handles, JobKind, JobName};
+use bs_sched::{Admit, Core, Leave, NextCommand};
 use std::alloc::Global;
-use std::sync::Wait;
 
 /// A core, and the thread that makes its acts and runs its jobs.
 #[derive(Drop)]
-pub(crate) struct Alone<'a, const CAP: usize, R, G> {
-    pub(crate) rt: &'a R,
+pub(crate) struct Alone<'a, const CAP: usize, G> {
     pub(crate) alloc: Global,
     pub(crate) core: Core<CAP>,
     /// The row in the run that the core's row 0 is. The `Gate` sees the run's rows.
@@ -40,10 +32,12 @@ pub(crate) struct Alone<'a, const CAP: usize, R, G> {
     pub(crate) thread: usize,
     /// The worker in the core.
     pub(crate) worker: usize,
+    /// How many commands were queued since all were answered.
+    pub(crate) waiting: usize,
     pub(crate) gate: &'a G,
 }
 
-impl<const CAP: usize, R: Wait, G: Gate> Alone<'_, CAP, R, G> {
+impl<const CAP: usize, G: Gate> Alone<'_, CAP, G> {
     /// Whether the gate lets the job pass.
     #[inline(always)]
     fn may_run(&self, job: JobName) -> bool {
@@ -58,105 +52,72 @@ impl<const CAP: usize, R: Wait, G: Gate> Alone<'_, CAP, R, G> {
         )
     }
 
-    /// Runs a Begin or a Join that was just taken, and completes it.
-    #[inline(always)]
-    fn run_job(&mut self, ticket: Ticket<CAP>) -> Result<(), Run>
-        requires fresh { IsFresh ticket }
-        requires own { IsOwn self.old.core.games self.old.worker ticket }
-        ensures made { OnOk result (Makes [] self.old.core self.new.core) }
-        ensures worker { self.new.worker ≡ self.old.worker }
-    {
-        if !self.may_run(ticket.job()) {
-            return Err(Run::Broken);
-        }
-        match work(self.alloc, ticket) {
-            Ok(done) => {
-                self.core.put_own(self.worker, done);
-                Ok(())
+    /// Whether the gate lets that many parts of the game's move pass, one after the other.
+    fn may_run_parts(&self, game: u32, parts: u8) -> bool {
+        for part in 0..parts {
+            let job = JobName {
+                kind: JobKind::Part,
+                game,
+                part,
+            };
+            if !self.may_run(job) {
+                return false;
             }
-            Err(_) => Err(Run::Memory),
         }
+        true
     }
 
-    /// Completes all parts of a move.
-    fn complete_move(&mut self, parts: ArrayVec<Option<Done<CAP>>, 4>) -> Result<(), Run>
-        ensures made { OnOk result (Makes [] self.old.core self.new.core) }
-        ensures worker { self.new.worker ≡ self.old.worker }
-    {
-        match self.core.put_parts(parts) {
-            Ok(()) => Ok(()),
-            Err(_) => Err(Run::Broken),
-        }
-    }
-
-    /// Finishes a part; after the last one of its move, completes all of them.
-    #[tactic(auto, using(crate::proofs::MadeActs::makes_none))]
+    /// Whether the gate lets each job of the command pass, in their order.
     #[inline(always)]
-    fn finish(&mut self, key: PartKey<Done<CAP>>, done: Done<CAP>) -> Result<(), Run>
-        requires { part_of done.input ≡ key.part }
-        ensures made { OnOk result (Makes [] self.old.core self.new.core) }
-        ensures worker { self.new.worker ≡ self.old.worker }
-    {
-        match key.finish(done) {
-            Finish::More(spent) => {
-                drop(spent);
-                Ok(())
-            }
-            Finish::Last(parts) => self.complete_move(parts),
+    fn may_answer(&self, next: NextCommand) -> bool {
+        let game = next.game;
+        let begin = JobName {
+            kind: JobKind::Begin,
+            game,
+            part: 0,
+        };
+        let join = JobName {
+            kind: JobKind::Join,
+            game,
+            part: 0,
+        };
+        if next.parts == 0 {
+            return self.may_run(begin);
         }
+        self.may_run(begin) && self.may_run_parts(game, next.parts) && self.may_run(join)
     }
 
-    /// Runs a part that was just taken, and finishes it.
-    #[inline(always)]
-    fn run_part(&mut self, ticket: Ticket<CAP>, key: PartKey<Done<CAP>>) -> Result<(), Run>
-        requires fresh { IsFresh ticket }
-        requires part { part_of ticket.input ≡ key.part }
-        ensures made { OnOk result (Makes [] self.old.core self.new.core) }
-        ensures worker { self.new.worker ≡ self.old.worker }
-    {
-        if !self.may_run(ticket.job()) {
-            return Err(Run::Broken);
-        }
-        match work(self.alloc, ticket) {
-            Ok(done) => self.finish(key, done),
-            Err(_) => Err(Run::Memory),
-        }
-    }
-
-    /// Takes the next job, runs it and completes it. Returns false if there is none.
+    /// Answers the next command. Returns false if there is none.
     #[inline(always)]
     fn step(&mut self) -> Result<bool, Run>
         requires { self.old.worker ≤ self.old.core.games.workers }
         ensures made { OnOk result (Makes [] self.old.core self.new.core) }
         ensures worker { self.new.worker ≡ self.old.worker }
     {
-        match self.core.take(self.alloc, self.worker)? {
-            Taken::Job(ticket) => {
-                self.run_job(ticket)?;
-                Ok(true)
-            }
-            Taken::Part(ticket, key) => {
-                self.run_part(ticket, key)?;
-                Ok(true)
-            }
-            Taken::Nothing => Ok(false),
-            Taken::Busy => Err(Run::Broken),
-            Taken::Failed => Err(Run::Broken),
+        let Some(next) = self.core.next_command(self.worker) else {
+            return Ok(false);
+        };
+        if !self.may_answer(next) {
+            return Err(Run::Broken);
         }
+        self.core
+            .answer_here(self.alloc, self.worker, next.game as usize)?;
+        Ok(true)
     }
 
-    /// Answers all commands that are queued.
+    /// Answers all commands that are queued, at most as many as `waiting`.
     #[tactic(auto, using(crate::proofs::MadeActs::makes_none, crate::proofs::MadeActs::makes_after))]
     fn answer_all(&mut self) -> Result<(), Run>
         requires { self.old.worker ≤ self.old.core.games.workers }
         ensures made { OnOk result (Makes [] self.old.core self.new.core) }
         ensures worker { self.new.worker ≡ self.old.worker }
     {
-        for _ in self.rt.forever() {
+        for _ in 0..self.waiting {
             if !self.step()? {
                 break;
             }
         }
+        self.waiting = 0;
         Ok(())
     }
 
@@ -169,6 +130,7 @@ impl<const CAP: usize, R: Wait, G: Gate> Alone<'_, CAP, R, G> {
         if stay >= self.core.rows() || !self.core.is_open(stay) {
             return Err(Run::Broken);
         }
+        self.waiting = self.waiting.saturating_add(1);
         Ok(self.core.hand_handles(stay, command)?)
     }
 
@@ -298,8 +260,7 @@ impl<const CAP: usize, R: Wait, G: Gate> Alone<'_, CAP, R, G> {
 }
 
 /// Like `run_any`, on the calling thread alone, which has that number.
-pub(crate) fn run_alone<const CAP: usize, R: Wait, G: Gate>(
-    rt: &R,
+pub(crate) fn run_alone<const CAP: usize, G: Gate>(
     alloc: Global,
     core: Core<CAP>,
     acts: &[Act],
@@ -314,12 +275,12 @@ pub(crate) fn run_alone<const CAP: usize, R: Wait, G: Gate>(
     let blocks = core.counts().size;
     let worker = core.workers();
     let mut alone = Alone {
-        rt,
         alloc,
         core,
         first: 0,
         thread,
         worker,
+        waiting: 0,
         gate,
     };
     alone.make_all(acts)?;

@@ -151,12 +151,12 @@ impl<R: Threads + Wait + Sync, G: Gate> Apart<'_, R, G> {
             return Err(Run::Broken);
         };
         let alone = Alone {
-            rt: self.rt,
             alloc: self.alloc,
             core,
             first,
             thread,
             worker: thread,
+            waiting: 0,
             gate: self.gate,
         };
         let core = alone.play(row, self.acts, self.places)?;
@@ -172,7 +172,7 @@ impl<R: Threads + Wait + Sync, G: Gate> Apart<'_, R, G> {
         ensures { IfOk result (λ ran. All (λ lone. IsPlayed self.now.acts.now self.now.places.now lone.row lone.core) ran.items) }
     {
         let mut ran = Vec::new(self.alloc);
-        for _ in self.rt.forever() {
+        for _ in 0..self.places.len() {
             match waiting.take(self.rt) {
                 Some(lone) => put_lone(&mut ran, self.run_row(thread, lone)?)?,
                 None => break,

@@ -61,13 +61,13 @@ pub fn run_any<const CAP: usize, R: Threads + Wait + Sync, G: Gate>(
     let threads = threads.min(core.workers());
     let rows = core.rows();
     if threads <= 1 || !are_commands(acts) {
-        run_alone(rt, alloc, core, acts, threads, gate)
+        run_alone(alloc, core, acts, threads, gate)
     } else if rows > 1 {
         run_apart(rt, alloc, core, acts, threads.min(rows), gate)
     } else if has_move(acts) {
         run_together(rt, alloc, core, acts, threads, gate)
     } else {
-        run_alone(rt, alloc, core, acts, threads, gate)
+        run_alone(alloc, core, acts, threads, gate)
     }
 }
 

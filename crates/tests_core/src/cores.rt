@@ -14,7 +14,7 @@ use std::sync::Wait;
 use std::test::Fail;
 
 /// Opens a core of one game and six blocks.
-fn core_of_one(alloc: Global, name: &str, quota: u32) -> Result<Core<CAP>, Fail> {
+pub(crate) fn core_of_one(alloc: Global, name: &str, quota: u32) -> Result<Core<CAP>, Fail> {
     core_of(alloc, &[(name, quota)], 6)
 }
 
@@ -352,7 +352,7 @@ fn play_move(alloc: Global, core: &mut Core<CAP>) -> Result<(), Fail> {
 }
 
 /// Checks a core of one game that has answered a `new` and a move.
-fn check_moved(alloc: Global, core: &Core<CAP>) -> Result<(), Fail> {
+pub(crate) fn check_moved(alloc: Global, core: &Core<CAP>) -> Result<(), Fail> {
     check_free(core, 5)?;
     let readings = read_all(core)?;
     same("charge", readings.charge, 128)?;
@@ -441,7 +441,7 @@ fn hand_turn(alloc: Global, core: &mut Core<CAP>, turn: u16) -> Result<(), Fail>
 }
 
 /// A game with a quota of two records is refused a third one, frees one, and goes on.
-fn hand_over_quota(alloc: Global, core: &mut Core<CAP>) -> Result<(), Fail> {
+pub(crate) fn hand_over_quota(alloc: Global, core: &mut Core<CAP>) -> Result<(), Fail> {
     hand(alloc, core, 0, new_solo(alloc, 5)?)?;
     hand(alloc, core, 0, straight_on(alloc))?;
     hand(alloc, core, 0, straight_on(alloc))?;
@@ -460,7 +460,7 @@ fn check_plain(core: &Core<CAP>, number: usize, (word, charge): (Word, u32)) -> 
     same("word and charge", (*said, *charged), (word, charge))
 }
 
-fn check_over_quota(alloc: Global, core: &Core<CAP>) -> Result<(), Fail> {
+pub(crate) fn check_over_quota(alloc: Global, core: &Core<CAP>) -> Result<(), Fail> {
     let readings = read_all(core)?;
     same("replies", readings.replies, 7)?;
     same("records", readings.records, 2)?;
@@ -543,7 +543,7 @@ fn fail_with_a_job_out(alloc: Global, core: &mut Core<CAP>) -> Result<(), Fail> 
     check_failed(alloc, core, 0)
 }
 
-fn fail(core: &mut Core<CAP>) -> Result<(), Fail> {
+pub(crate) fn fail(core: &mut Core<CAP>) -> Result<(), Fail> {
     holds("not failed", !core.has_failed())?;
     core.fail();
     holds("failed", core.has_failed())

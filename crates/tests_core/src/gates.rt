@@ -1,9 +1,9 @@
 //! The `Gate` of a run: for which jobs it is consulted, and how a run ends if it refuses one.
 use crate::coming::coming_and_going;
 use crate::runs::{TWO, commands, push, run_with};
-use bs_board::Command;
+use bs_board::{Command, Direction};
 use bs_fiber::{JobKind, JobName};
-use bs_samples::{holds, new_of_three, same};
+use bs_samples::{holds, new_of_three, same, third_goes};
 use bs_sched::Event;
 use bs_workers::{Act, Gate, Run};
 use std::alloc::Global;
@@ -191,4 +191,95 @@ fn a_held_game_holds_up_no_other(rt: HostRuntime) -> Result<(), Fail> {
     };
     run_with(&rt, &games, acts.as_slice(), (2, 2), &gate)??;
     same("jobs of the others", gate.others.load(SeqCst), 6)
+}
+
+/// Refuses one job of those that it records: the first of that kind and part.
+#[derive(Drop)]
+struct RefusingOne {
+    asked: Noting,
+    kind: JobKind,
+    part: u8,
+}
+
+impl Gate for RefusingOne {
+    fn at(&self, worker: usize, job: JobName) -> bool {
+        self.asked.at(worker, job) && !(job.kind == self.kind && job.part == self.part)
+    }
+}
+
+/// The jobs of a `new` and of a move of three snakes, in the order in which one thread asks.
+const ASKED: [(JobKind, u8); 5] = [
+    (JobKind::Begin, 0),
+    (JobKind::Begin, 0),
+    (JobKind::Part, 0),
+    (JobKind::Part, 1),
+    (JobKind::Join, 0),
+];
+
+/// A `new` and a move of three snakes for one game.
+fn commands_of_a_move(alloc: Global) -> Result<Vec<Act>, Fail> {
+    let mut acts = Vec::new(alloc);
+    push(alloc, &mut acts, 0, new_of_three(alloc)?)?;
+    push(alloc, &mut acts, 0, third_goes(alloc, Direction::Down)?)?;
+    Ok(acts)
+}
+
+/// Checks that the gate was consulted for the first `count` of these jobs, in order, and no other.
+fn check_asked(noted: &[(usize, JobName)], count: usize) -> Result<(), Fail> {
+    same("jobs", noted.len(), count)?;
+    for (note, wanted) in noted.iter().zip(ASKED.iter()) {
+        let (worker, job) = *note;
+        same("worker and game", (worker, job.game), (1, 0))?;
+        same("job", (job.kind, job.part), *wanted)?;
+    }
+    Ok(())
+}
+
+/// One thread consults the gate for the Begin of a command, each part of its move and the Join, in
+/// this order.
+#[test]
+fn one_thread_asks_for_begin_parts_and_join(rt: HostRuntime) -> Result<(), Fail> {
+    let acts = commands_of_a_move(rt.alloc())?;
+    let gate = Noting::new(rt.alloc());
+    run_with(&rt, &[("a", 4096)], acts.as_slice(), (1, 1), &gate)??;
+    check_asked(gate.noted.into_inner().as_slice(), 5)
+}
+
+/// Runs a `new` and a move on one thread with a gate that refuses the job: the run is broken, and
+/// that job is the last one, of that many, for which the gate is consulted.
+fn check_refused_at<R: Threads + Wait + Sync + AllocGlobal>(
+    rt: &R,
+    (kind, part): (JobKind, u8),
+    count: usize,
+) -> Result<(), Fail> {
+    let acts = commands_of_a_move(rt.alloc())?;
+    let asked = Noting::new(rt.alloc());
+    let gate = RefusingOne { asked, kind, part };
+    let ran = run_with(rt, &[("a", 4096)], acts.as_slice(), (1, 1), &gate)?;
+    same("fault", ran.err(), Some(Run::Broken))?;
+    check_asked(gate.asked.noted.into_inner().as_slice(), count)
+}
+
+/// A refused Begin breaks a run on one thread.
+#[test]
+fn a_refused_begin_is_heard(rt: HostRuntime) -> Result<(), Fail> {
+    check_refused_at(&rt, (JobKind::Begin, 0), 1)
+}
+
+/// The first part of a move breaks a run on one thread if it is refused.
+#[test]
+fn a_refused_first_part_is_heard(rt: HostRuntime) -> Result<(), Fail> {
+    check_refused_at(&rt, (JobKind::Part, 0), 3)
+}
+
+/// The second part of a move breaks a run on one thread if it is refused, though the first was not.
+#[test]
+fn a_refused_second_part_is_heard(rt: HostRuntime) -> Result<(), Fail> {
+    check_refused_at(&rt, (JobKind::Part, 1), 4)
+}
+
+/// A refused Join breaks a run on one thread.
+#[test]
+fn a_refused_join_is_heard(rt: HostRuntime) -> Result<(), Fail> {
+    check_refused_at(&rt, (JobKind::Join, 0), 5)
 }

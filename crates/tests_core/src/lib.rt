@@ -14,6 +14,8 @@ mod fibers;
 #[cfg(test)]
 mod gates;
 #[cfg(test)]
+mod here;
+#[cfg(test)]
 mod player;
 #[cfg(test)]
 mod registry;

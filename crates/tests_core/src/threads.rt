@@ -114,7 +114,7 @@ fn any_number_of_workers_gives_the_same_replies(rt: HostRuntime) -> Result<(), F
 }
 
 /// Checks that a game of both cores has the same replies, as text.
-fn check_replies(
+pub(crate) fn check_replies(
     alloc: Global,
     one: &Core<CAP>,
     other: &Core<CAP>,
@@ -128,7 +128,7 @@ fn check_replies(
 }
 
 /// Checks that a game of both cores has as many commands, the same charge and the same records.
-fn check_records(one: &Core<CAP>, other: &Core<CAP>, game: usize) -> Result<(), Fail> {
+pub(crate) fn check_records(one: &Core<CAP>, other: &Core<CAP>, game: usize) -> Result<(), Fail> {
     holds("rows", game < one.rows() && game < other.rows())?;
     same("taken", one.taken(game).len(), other.taken(game).len())?;
     same("charge", one.charge(game), other.charge(game))?;

@@ -1,5 +1,5 @@
 -- The games of cores of one row each, put together one after the other.
-use Rattle.std.specs.Prelude.{◌≡◌, ℕ, suc, ◌<◌, ◌≤◌, true, false, List, [], ◌∷◌, ◌++◌, drop, length, All, Option, Some, None, option_and_then, option_to_list, slice_index_or, slice_set}
+use Rattle.std.specs.Prelude.{◌≡◌, ℕ, suc, ◌<◌, ◌≤◌, true, false, List, [], ◌∷◌, ◌++◌, length, All, Option}
 use Rattle.bs_board.specs.plans.Plan.{GameRow}
 use Rattle.bs_pool.specs.Assembly.{Assembled, AreNew, laid}
 use Rattle.bs_pool.specs.Ledger.{Ledger, size}
@@ -8,7 +8,7 @@ use Rattle.bs_heap.specs.Renaming.{renamed_packing}
 use Rattle.bs_sched.specs.declared.event.Event.{Event}
 use Rattle.bs_sched.specs.declared.event.Event.TheVariants as event
 use Rattle.bs_registry.specs.declared.blocks.TheConstants.{MOST_STAYS}
-use Rattle.bs_sched.specs.Assembly.{jobs_at, own_frames, own_lane}
+use Rattle.bs_sched.specs.Assembly.{own_frames, own_lane}
 use Rattle.bs_sched.specs.Core.{CoreView}
 use Rattle.bs_sched.specs.Game.{GameView}
 use Rattle.bs_sched.specs.Games.{GamesView, tally_of}

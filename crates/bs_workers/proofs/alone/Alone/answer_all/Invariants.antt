@@ -4,5 +4,4 @@ use Rattle.bs_workers.specs.inner.Making.{Makes}
 use Rattle.bs_workers.proofs.alone.Alone.answer_all.Given as goal
 
 abbrev pub invariant-loop : goal.invariant-loop
-invariant-loop g l =
-    (goal.iterator-loop g).can_next l.iterator' × (goal.iterator-loop g).is_finite l.iterator' × Makes [] l.fn.self.core l.self.core × (l.self.worker ≡ l.fn.self.worker)
+invariant-loop g l = Makes [] l.fn.self.core l.self.core × (l.self.worker ≡ l.fn.self.worker)

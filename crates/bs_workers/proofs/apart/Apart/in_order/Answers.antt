@@ -1,5 +1,5 @@
 -- One more core, of the next row.
-use Rattle.std.proofs.Common.{◌≡◌, ℕ, ◌<◌, length, sym, subst, arith}
+use Rattle.std.proofs.Common.{◌≡◌, ◌<◌, length, sym, subst, arith}
 use Rattle.bs_workers.specs.declared.apart.Lone.{Lone}
 use Rattle.bs_workers.specs.inner.Apart.{ArePlayed, IsPlayed}
 use Rattle.bs_workers.proofs.Played.{one_holds, played_more, rest_hold}

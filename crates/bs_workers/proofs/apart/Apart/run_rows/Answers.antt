@@ -9,5 +9,5 @@ use Rattle.bs_workers.proofs.apart.Apart.run_rows.Goals as goal
 pub loop-preserved : goal.loop-preserved
 loop-preserved g c =
     let P : Lone g.row.CAP → Type 0 = λ lone. IsPlayed c.args.self.now.acts.now c.args.self.now.places.now lone.row lone.core in
-    subst (All P) (sym c.in_ok-put_lone-in-Some-take.ensures)
-    (All-push P c.loop.ran.items _ c.loop.invariant c.in_ok-run_row-in-Some-take.ensures)
+    subst (All P) (sym c.in_ok-put_lone-in-Some.ensures)
+    (All-push P c.loop.ran.items _ c.loop.invariant c.in_ok-run_row-in-Some.ensures)

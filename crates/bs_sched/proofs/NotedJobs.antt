@@ -1,0 +1,31 @@
+-- The events of a command that was answered at once are noted one by one.
+use Rattle.std.proofs.Common.{◌≡◌, ℕ, ◌+◌, List, [], ◌∷◌, ◌++◌, map, sym, ap, ◌∙◌, arith, append_assoc}
+use Rattle.std.specs.List.{range_with_len}
+use Rattle.std.proofs.lemmas.List.FromFn.{map-range_with_len_more}
+use Rattle.bs_sched.specs.declared.event.Event.{Event}
+use Rattle.bs_sched.specs.declared.event.Event.TheVariants as event
+use Rattle.bs_sched.specs.Answering.{job_events, join_job, move_events, part_puts, part_takes}
+use Rattle.bs_sched.specs.Parts.{part_job}
+
+one_more : (f : ℕ → Event) (old now new : List Event) (p : ℕ) → now ≡ old ++ map f (range_with_len 0 p) → new ≡ now ++ f p ∷ []
+    → new ≡ old ++ map f (range_with_len 0 (p + 1))
+one_more f old now new p before after =
+    after ∙ ap (λ (events : List Event). events ++ f p ∷ []) before ∙ append_assoc old (map f (range_with_len 0 p)) (f p ∷ [])
+    ∙ ap (λ (events : List Event). old ++ events) (sym (map-range_with_len_more f 0 p p (omega arith)))
+
+pub one_more_take : (worker game p : ℕ) (old now new : List Event) → new ≡ now ++ event.Take worker (part_job game p) ∷ [] → now ≡ old ++ part_takes worker game p
+    → new ≡ old ++ part_takes worker game (p + 1)
+one_more_take worker game p old now new after before = one_more (λ q. event.Take worker (part_job game q)) old now new p before after
+
+pub one_more_put : (worker game p : ℕ) (old now new : List Event) → new ≡ now ++ event.Put worker (part_job game p) ∷ [] → now ≡ old ++ part_puts worker game p
+    → new ≡ old ++ part_puts worker game (p + 1)
+one_more_put worker game p old now new after before = one_more (λ q. event.Put worker (part_job game q)) old now new p before after
+
+pub all_noted : (worker game parts : ℕ) (old takes puts new : List Event) → new ≡ puts ++ job_events worker (join_job game) → takes ≡ old ++ part_takes worker game parts
+    → puts ≡ takes ++ part_puts worker game parts → new ≡ old ++ move_events worker game parts
+all_noted worker game parts old takes puts new last first middle =
+    let ts = part_takes worker game parts in
+    let ps = part_puts worker game parts in
+    let join = job_events worker (join_job game) in
+    last ∙ ap (λ (events : List Event). events ++ join) (middle ∙ ap (λ (events : List Event). events ++ ps) first)
+    ∙ append_assoc (old ++ ts) ps join ∙ append_assoc old ts (ps ++ join)
