@@ -1,17 +1,15 @@
 //! A game as the records of its boards, in a pool of its own.
-ghost use Rattle.std.specs.Prelude.{ℕ, List, IsTrue, Option, ◌≡◌, ◌<◌, ◌≤◌, [], length, option_copied, option_map, slice_get, slice_index_or, IfOk, IfSome, OnOk, OnErr, None, Some};
+ghost use Rattle.std.specs.Prelude.{ℕ, List, IsTrue, Option, ◌≡◌, ◌<◌, ◌≤◌, [], length, option_copied, option_map, slice_get, slice_index_or, is_some, true, IfOk, IfSome, OnOk, OnErr, Some};
 ghost use Rattle.bs_block.specs.Bytes.{IsCapacity};
 ghost use Rattle.bs_board.specs.boards.Legal.{IsLegal};
 ghost use Rattle.bs_board.specs.declared.boards.board.Board.{Board as AnyBoard};
 ghost use Rattle.bs_board.specs.declared.commands.command.Command.TheVariants as command;
-ghost use Rattle.bs_board.specs.commands.Orders.{Orders};
 ghost use Rattle.bs_board.specs.declared.limits.TheConstants.{MOST_QUOTA};
 ghost use Rattle.bs_board.specs.records.Kept.{IsLegalRecord};
 ghost use Rattle.bs_board.specs.records.Record.{record_of};
 ghost use Rattle.bs_game.specs.Answer.{Fits, answer_to, asked_board, view_of_game};
 ghost use Rattle.bs_game.specs.Game.{board_of_turn, game_charge, last_board};
 ghost use Rattle.bs_game.specs.Law.{IsFitEffect, effected};
-ghost use Rattle.bs_game.specs.Reasons.{first_reason};
 ghost use Rattle.bs_game.specs.View.{IsFitView};
 ghost use Rattle.bs_heap.specs.Charge.{blocks_for, charge_of};
 ghost use Rattle.bs_heap.specs.Heap.{empty_heap};
@@ -19,12 +17,11 @@ ghost use Rattle.bs_heap.specs.HeldBlocks.{IsKeptIn};
 ghost use Rattle.bs_heap.specs.declared.heap.TheConstants.{MOST_RECORD_BYTES};
 ghost use Rattle.bs_pool.specs.Ledger.{opened, reserved, size, with_reservation};
 ghost use Rattle.bs_live.specs.inner.Game.{game_after, newest_record, no_game};
-ghost use Rattle.bs_plane.specs.Following.{Follows};
 
 use bs_board::{Board, Command, KeptBoard, Move, Record, Reply, TurnNumber};
-use bs_game::{Answer, Effect, View, answer, check_move, place_of_turn};
+use bs_game::{Answer, Effect, View, answer, place_of_turn};
 use bs_heap::{MOST_RECORD_BYTES, TagHeap, blocks_for};
-use bs_plane::{Stepper, answer_move};
+use bs_plane::PlaneCache;
 use bs_pool::{Pool, Reserve};
 use std::alloc::{AllocError, Global};
 use std::marker::Model;
@@ -41,7 +38,7 @@ pub struct KeptGame<const CAP: usize> {
     pool: Pool<CAP>,
     /// The newest record, once more.
     last: Option<Record>,
-    stepper: Stepper,
+    planes: PlaneCache,
 }
 
 impl<const CAP: usize> Model for KeptGame<CAP> {
@@ -142,20 +139,6 @@ fn renew(last: &mut Option<Record>, effect: Effect)
     }
 }
 
-/// The stepper of a game after an effect: of no board, where that changes the newest record.
-#[tactic(auto, using(crate::proofs::Newest::lost_follows, crate::proofs::Newest::newest_trimmed))]
-fn forget_by(stepper: &mut Stepper, effect: &Effect)
-    ensures { (records : List (List ℕ)) → IfSome (newest_record records) (Follows stepper.old)
-        → IfSome (newest_record (effected effect.now records)) (Follows stepper.new) }
-{
-    match effect {
-        Effect::Keep => {}
-        Effect::Add(_) => stepper.forget(),
-        Effect::Trim => {}
-        Effect::Drop => stepper.forget(),
-    }
-}
-
 impl<const CAP: usize> KeptGame<CAP> {
     /// Makes a game without boards, with a pool of `blocks` blocks.
     pub(crate) fn new(alloc: Global, quota: u32, blocks: usize) -> Result<Self, AllocError>
@@ -170,7 +153,7 @@ impl<const CAP: usize> KeptGame<CAP> {
             heap: TagHeap::new(alloc, TAG, quota)?,
             pool: open_pool(alloc, quota, blocks)?,
             last: None,
-            stepper: Stepper::new(alloc),
+            planes: PlaneCache::new(alloc),
         })
     }
 
@@ -250,20 +233,9 @@ impl<const CAP: usize> KeptGame<CAP> {
         })
     }
 
-    /// Whether a move is allowed: a game runs, which is not over and not at its last turn.
-    fn may_move(&self) -> bool
-        ensures { IsTrue result → (orders : Orders) → first_reason (view_of_game self.now.quota self.now.game (command.Move orders)) (command.Move orders) ≡ None }
-    {
-        match &self.last {
-            None => false,
-            Some(last) => check_move(last.is_over(), last.turn()).is_none(),
-        }
-    }
-
-    /// Answers a move that is allowed, from the newest record, and changes the records.
-    #[tactic(auto, using(crate::proofs::Newest::lost_follows))]
-    fn answer_allowed(&mut self, alloc: Global, orders: &Move) -> Result<Reply, AllocError>
-        requires { first_reason (view_of_game self.old.quota self.old.game (command.Move orders.now)) (command.Move orders.now) ≡ None }
+    /// Answers a move in a game that runs, from the newest record, and changes the records.
+    fn answer_move(&mut self, alloc: Global, orders: &Move) -> Result<Reply, AllocError>
+        requires { is_some (last_board self.old.game) ≡ true }
         ensures reply { IfOk result (λ reply. reply ≡ (answer_to self.old.quota self.old.game (command.Move orders.now)).reply) }
         ensures game { OnOk result (self.new ≡ game_after (command.Move orders.now) self.old) }
         ensures err { OnErr result (self.new ≡ self.old) }
@@ -274,14 +246,9 @@ impl<const CAP: usize> KeptGame<CAP> {
         match &self.last {
             None => unreachable!(),
             Some(last) => {
-                let answer = answer_move(
-                    alloc,
-                    &mut self.stepper,
-                    last,
-                    orders,
-                    self.quota,
-                    charge,
-                )?;
+                let answer = self
+                    .planes
+                    .answer(alloc, last, orders, self.quota, charge)?;
                 let Answer { reply, effect } = answer;
                 change_records(&mut self.heap, &mut self.pool, &effect);
                 renew(&mut self.last, effect);
@@ -302,7 +269,6 @@ impl<const CAP: usize> KeptGame<CAP> {
         self.heap.grow_index()?;
         let Answer { reply, effect } = answer;
         change_records(&mut self.heap, &mut self.pool, &effect);
-        forget_by(&mut self.stepper, &effect);
         renew(&mut self.last, effect);
         Ok(reply)
     }
@@ -314,7 +280,7 @@ impl<const CAP: usize> KeptGame<CAP> {
         ensures err { OnErr result (self.new ≡ self.old) }
     {
         match command {
-            Command::Move(orders) if self.may_move() => self.answer_allowed(alloc, orders),
+            Command::Move(orders) if self.last.is_some() => self.answer_move(alloc, orders),
             _ => self.answer_decoded(alloc, command),
         }
     }

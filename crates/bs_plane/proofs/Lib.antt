@@ -13,6 +13,7 @@ pub mod Places
 pub mod PlayedTurn
 pub mod QuietTurn
 pub mod Refilled
+pub mod RunningGame
 pub mod StepBytes
 pub mod Steps
 pub mod WrittenRecord

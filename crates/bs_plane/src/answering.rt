@@ -81,7 +81,7 @@ fn record_charge(next: &Record) -> u32
 
 /// Answers a move that is allowed, from the record of the last board. After a refusal and after an
 /// error the stepper is of no board.
-pub fn answer_move(
+pub(crate) fn answer_move(
     alloc: Global,
     stepper: &mut Stepper,
     last: &Record,

@@ -3,6 +3,7 @@
 #![tactic(auto)]
 
 mod answering;
+mod cache;
 mod cell;
 mod food;
 mod law;
@@ -11,6 +12,6 @@ mod plane;
 mod stepper;
 mod writing;
 
-pub use answering::answer_move;
+pub use cache::PlaneCache;
 pub use law::quiet_law;
 pub use stepper::Stepper;

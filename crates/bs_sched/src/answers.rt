@@ -16,6 +16,7 @@ ghost use Rattle.bs_sched.specs.inner.Answers.{input_in};
 use bs_board::{Board, Command, KeptBoard, Record, Word};
 use bs_fiber::Expected;
 use bs_game::{Answer, View, answer, check_unseen, refuse, show};
+use bs_plane::PlaneCache;
 use std::alloc::{AllocError, Global};
 
 /// Decodes the board of a record.
@@ -83,8 +84,13 @@ fn show_copied(alloc: Global, word: Word, bytes: &[u8], charge: u32) -> Result<A
     Ok(show(word, KeptBoard::of_record(kept), charge))
 }
 
-/// Answers a command that `check_unseen` does not refuse. Decodes no board to show one.
-fn answer_unrefused(alloc: Global, expected: &Expected<'_>) -> Result<Answer, AllocError>
+/// Answers a command that `check_unseen` does not refuse. Decodes no board to show one, and plays a
+/// move from record to record.
+fn answer_unrefused(
+    alloc: Global,
+    planes: &mut PlaneCache,
+    expected: &Expected<'_>,
+) -> Result<Answer, AllocError>
     requires { IsFitGame (input_in expected.now) }
     ensures { IfOk result (λ answer. (view : AnyView) → IsSeen view (input_in expected.now) → answer ≡ answer_of view expected.now.command.now) }
 {
@@ -93,13 +99,20 @@ fn answer_unrefused(alloc: Global, expected: &Expected<'_>) -> Result<Answer, Al
         (Command::Turn(_), Some(_), Some(asked)) => {
             show_copied(alloc, Word::Turn, asked, expected.charge)
         }
+        (Command::Move(orders), Some(last), _) => {
+            planes.answer(alloc, last, orders, expected.quota, expected.charge)
+        }
         _ => answer_decoded(alloc, expected),
     }
 }
 
 /// Answers a command from what its Begin is expected to read. Decodes a board only if the answer
 /// depends on it.
-pub(crate) fn answer_expected(alloc: Global, expected: &Expected<'_>) -> Result<Answer, AllocError>
+pub(crate) fn answer_expected(
+    alloc: Global,
+    planes: &mut PlaneCache,
+    expected: &Expected<'_>,
+) -> Result<Answer, AllocError>
     requires { IsFitGame (input_in expected.now) }
     ensures { IfOk result (λ answer. (view : AnyView) → IsSeen view (input_in expected.now) → answer ≡ answer_of view expected.now.command.now) }
 {
@@ -109,6 +122,6 @@ pub(crate) fn answer_expected(alloc: Global, expected: &Expected<'_>) -> Result<
         expected.asked.is_some(),
     ) {
         Some(reason) => Ok(refuse(reason)),
-        None => answer_unrefused(alloc, expected),
+        None => answer_unrefused(alloc, planes, expected),
     }
 }

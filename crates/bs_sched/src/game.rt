@@ -43,6 +43,7 @@ use bs_fiber::{
 };
 use bs_game::{Answer, Effect, place_of_turn};
 use bs_heap::TagHeap;
+use bs_plane::PlaneCache;
 use bs_pool::{Owned, Pool};
 use bs_registry::MOST_STAYS;
 use std::alloc::{AllocError, Global};
@@ -55,6 +56,8 @@ pub(crate) struct Game<const CAP: usize> {
     fiber: Fiber,
     heap: TagHeap<CAP>,
     parts: MoveParts<CAP>,
+    /// The plane of its last board, from its first move until it leaves.
+    planes: Option<Box<PlaneCache>>,
 }
 
 impl<const CAP: usize> Model for Game<CAP> {
@@ -137,6 +140,7 @@ impl<const CAP: usize> Game<CAP> {
             fiber: Fiber::new(alloc, row),
             heap,
             parts,
+            planes: None,
         })
     }
 
@@ -379,6 +383,7 @@ impl<const CAP: usize> Game<CAP> {
     {
         let charge = self.charge();
         self.heap.free(pool);
+        self.planes = None;
         self.fiber.close(charge);
     }
 
@@ -565,7 +570,11 @@ impl<const CAP: usize> Game<CAP> {
     }
 
     /// The answer to the next command.
-    fn next_answer(&self, alloc: Global) -> Result<Answer, AllocError>
+    fn next_answer(
+        &self,
+        alloc: Global,
+        planes: &mut PlaneCache,
+    ) -> Result<Answer, AllocError>
         requires { is_ready self.now.lane kind.Begin 0 ≡ true }
         ensures { IfOk result (λ answer. answer ≡ next_answer self.now.lane) }
     {
@@ -576,11 +585,42 @@ impl<const CAP: usize> Game<CAP> {
         };
         self.keeps();
         let expected = self.expected(self.fiber.next(), self.fiber.next_seq(), 0, job);
-        answer_expected(alloc, &expected)
+        answer_expected(alloc, planes, &expected)
     }
 
-    /// Answers the next command at once. While the records change, a block is drawn for each part
-    /// that its move would have. After an error nothing is changed.
+    /// Answers the next command at once, with that cache of its plane. While the records change, a
+    /// block is drawn for each part that its move would have. After an error nothing is changed.
+    fn answer_with(
+        &mut self,
+        alloc: Global,
+        pool: &mut Pool<CAP>,
+        planes: &mut PlaneCache,
+        parts: usize,
+    ) -> Result<(), AllocError>
+        requires ready { is_ready self.old.lane kind.Begin 0 ≡ true }
+        requires few { parts ≤ 4 }
+        requires blocks { HasBlocks CAP self.old pool.old }
+        ensures game { OnOk result (self.new ≡ game_here CAP (number_behind self.old.frames.tag parts pool.old) self.old) }
+        ensures pool { OnOk result (pool.new ≡ pool_here CAP parts self.old pool.old) }
+        ensures idle { self.old.frames ≡ idle_frames self.old.frames.tag self.old.frames.tally }
+        ensures blocks { HasBlocks CAP self.new pool.new }
+        ensures others { LeavesBut self.old.tag self.old.frames.tag pool.old pool.new }
+        ensures err { OnErr result (self.new ≡ self.old) }
+        ensures err_pool { OnErr result (pool.new ≡ pool.old) }
+    {
+        let answer = self.next_answer(alloc, planes)?;
+        let mut frames = Vec::with_capacity(alloc, parts)?;
+        self.heap.grow_index()?;
+        self.fiber.begin(0)?;
+        self.fiber.keeps();
+        draw_frames(pool, self.parts.tag(), parts, &mut frames);
+        change_records(&mut self.heap, pool, &answer.effect);
+        give_all(&mut frames, pool);
+        self.fiber.answer(answer);
+        Ok(())
+    }
+
+    /// Answers the next command at once. After an error nothing is changed.
     pub(crate) fn answer_here(
         &mut self,
         alloc: Global,
@@ -598,16 +638,13 @@ impl<const CAP: usize> Game<CAP> {
         ensures err { OnErr result (self.new ≡ self.old) }
         ensures err_pool { OnErr result (pool.new ≡ pool.old) }
     {
-        let answer = self.next_answer(alloc)?;
-        let mut frames = Vec::with_capacity(alloc, parts)?;
-        self.heap.grow_index()?;
-        self.fiber.begin(0)?;
-        self.fiber.keeps();
-        draw_frames(pool, self.parts.tag(), parts, &mut frames);
-        change_records(&mut self.heap, pool, &answer.effect);
-        give_all(&mut frames, pool);
-        self.fiber.answer(answer);
-        Ok(())
+        let mut planes = match self.planes.take() {
+            Some(planes) => planes,
+            None => Box::new(alloc, PlaneCache::new(alloc))?,
+        };
+        let answered = self.answer_with(alloc, pool, &mut planes, parts);
+        self.planes = Some(planes);
+        answered
     }
 
     /// Completes a job that was out.

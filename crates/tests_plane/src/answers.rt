@@ -1,15 +1,11 @@
 //! The answers to the moves of examples/quota_of_two_records, from the records of its game.
-ghost use Rattle.std.specs.Prelude.{◌≡◌, IfOk, IsTrue, None, Some, option_map};
-ghost use Rattle.bs_board.specs.declared.commands.command.Command.TheVariants as command;
+ghost use Rattle.std.specs.Prelude.{◌≡◌, None, Some};
 ghost use Rattle.bs_board.specs.boards.Legal.{IsLegal};
-ghost use Rattle.bs_board.specs.records.Record.{record_of};
-ghost use Rattle.bs_game.specs.Reasons.{first_reason};
 ghost use Rattle.bs_game.specs.View.{IsFitView};
 
-use crate::games::loaded;
-use bs_board::{Board, Command, Move, Record, Refusal, Reply, Word, is_legal};
-use bs_game::{Answer, Effect, View, check};
-use bs_plane::answer_move;
+use bs_board::{Board, Move, Record, Refusal, Reply, Word, is_legal};
+use bs_game::{Answer, Effect, View};
+use bs_plane::PlaneCache;
 use bs_samples::{holds, no_orders, same, solo_after};
 use std::alloc::{AllocError, Global};
 use std::test::Fail;
@@ -27,40 +23,43 @@ fn view(charge: u32, kept: usize, last: Board) -> View
     }
 }
 
-/// Whether a move is allowed.
-fn is_allowed(alloc: Global, view: &View, orders: &Move) -> Result<bool, AllocError>
-    ensures { IfOk result (λ yes. IsTrue yes → first_reason view.now (command.Move orders.now) ≡ None) }
-{
-    Ok(check(view, &Command::Move(orders.copy(alloc)?)).is_none())
-}
-
-/// Answers the move from the record of that board, over its plane.
-#[tactic(auto, using(crate::proofs::Loaded::last_of))]
+/// Answers the move from the record of that board.
+#[tactic(auto, using(crate::proofs::Loaded::running))]
 fn answered_from(
     alloc: Global,
+    planes: &mut PlaneCache,
     view: &View,
     board: &Board,
     orders: &Move,
 ) -> Result<Answer, AllocError>
     requires legal { IsLegal board.now }
     requires fit { IsFitView view.now }
-    requires passes { first_reason view.now (command.Move orders.now) ≡ None }
     requires last { view.now.last ≡ Some board.now }
 {
     let last = Record::of(alloc, board)?;
-    let mut stepper = loaded(alloc, board)?;
-    answer_move(alloc, &mut stepper, &last, orders, view.quota, view.charge)
+    planes.answer(alloc, &last, orders, view.quota, view.charge)
 }
 
-/// Answers a move straight on, after `turn` turns, where the kept records have that charge.
-fn answered(alloc: Global, turn: u16, charge: u32, kept: usize) -> Result<Answer, Fail> {
-    let board = solo_after(alloc, 5, turn)?;
+/// Answers a move straight on from that board, where so many records with that charge are kept.
+fn answered(
+    alloc: Global,
+    planes: &mut PlaneCache,
+    board: &Board,
+    (charge, kept): (u32, usize),
+) -> Result<Answer, Fail> {
     let view = view(charge, kept, board.copy(alloc)?);
-    let orders = no_orders(alloc);
-    holds("a legal board", is_legal(&board))?;
+    holds("a legal board", is_legal(board))?;
     holds("a view that fits", view.is_fit())?;
-    holds("a move that is allowed", is_allowed(alloc, &view, &orders)?)?;
-    Ok(answered_from(alloc, &view, &board, &orders)?)
+    Ok(answered_from(alloc, planes, &view, board, &no_orders(alloc))?)
+}
+
+/// Checks that the answer is that refusal, and changes nothing.
+fn is_refused(answer: &Answer, wanted: Refusal) -> Result<(), Fail> {
+    holds("no effect", matches!(answer.effect, Effect::Keep))?;
+    match &answer.reply {
+        Reply::Refused(reason) => same("the reason", *reason, wanted),
+        _ => Err(Fail::from("not refused")),
+    }
 }
 
 /// Checks that the answer shows and adds the board after that many turns, with two records kept.
@@ -80,16 +79,34 @@ fn is_shown(alloc: Global, answer: &Answer, turn: u16) -> Result<(), Fail> {
 }
 
 /// The moves of the transcript: its second line, its third, and its fifth, once the records but the
-/// last are freed.
+/// last are freed. The first is played on the decoded board, the others over its plane.
 #[test]
 fn quota_of_two_records(rt: HostRuntime) -> Result<(), Fail> {
     let alloc = rt.alloc();
-    is_shown(alloc, &answered(alloc, 0, 32, 1)?, 1)?;
-    let refused = answered(alloc, 1, 64, 2)?;
-    holds("no effect", matches!(refused.effect, Effect::Keep))?;
-    match &refused.reply {
-        Reply::Refused(reason) => same("the reason", *reason, Refusal::Quota)?,
-        _ => return Err(Fail::from("not refused")),
-    }
-    is_shown(alloc, &answered(alloc, 1, 32, 1)?, 2)
+    let mut planes = PlaneCache::new(alloc);
+    let first = solo_after(alloc, 5, 0)?;
+    is_shown(alloc, &answered(alloc, &mut planes, &first, (32, 1))?, 1)?;
+    let next = solo_after(alloc, 5, 1)?;
+    is_refused(&answered(alloc, &mut planes, &next, (64, 2))?, Refusal::Quota)?;
+    is_shown(alloc, &answered(alloc, &mut planes, &next, (32, 1))?, 2)
+}
+
+/// A cache that has seen another board answers as a new one does.
+#[test]
+fn planes_of_another_board(rt: HostRuntime) -> Result<(), Fail> {
+    let alloc = rt.alloc();
+    let mut planes = PlaneCache::new(alloc);
+    let next = solo_after(alloc, 5, 1)?;
+    is_shown(alloc, &answered(alloc, &mut planes, &next, (32, 1))?, 2)?;
+    let first = solo_after(alloc, 5, 0)?;
+    is_shown(alloc, &answered(alloc, &mut planes, &first, (32, 1))?, 1)
+}
+
+/// The snake of the second example has left the board at its third turn.
+#[test]
+fn move_of_a_game_that_is_over(rt: HostRuntime) -> Result<(), Fail> {
+    let alloc = rt.alloc();
+    let mut planes = PlaneCache::new(alloc);
+    let over = solo_after(alloc, 3, 2)?;
+    is_refused(&answered(alloc, &mut planes, &over, (32, 1))?, Refusal::Over)
 }

@@ -7,7 +7,6 @@ use Rattle.bs_game.specs.Answer.{answer_to}
 use Rattle.bs_game.specs.inner.Recorded.{IsRecorded}
 use Rattle.bs_heap.specs.Charge.{blocks_for}
 use Rattle.bs_heap.specs.HeldBlocks.{IsKeptIn}
-use Rattle.bs_plane.specs.Following.{Follows}
 use Rattle.bs_pool.specs.Ledger.{reserved, size}
 use Rattle.bs_live.specs.declared.kept_game.KeptGame.TheInside.{Inside}
 use Rattle.bs_live.specs.Game.{KeptBoards}
@@ -29,8 +28,7 @@ abbrev pub newest_record : List (List ℕ) → Option (List ℕ)
 newest_record records = slice_get records (length records - 1)
 
 -- its invariant: the records are those of a game; the blocks of the records are the tag's, which
--- has reserved as many as the quota allows; the newest record is kept apart, and the stepper
--- follows it or is of no board
+-- has reserved as many as the quota allows; the newest record is kept apart
 pub record IsKept (cap : ℕ) {most : ℕ} (k : Inside most) : Type 0 where
   pub small : k.quota ≤ MOST_QUOTA
   pub quota : k.heap.quota ≡ k.quota
@@ -38,4 +36,3 @@ pub record IsKept (cap : ℕ) {most : ℕ} (k : Inside most) : Type 0 where
   pub kept : IsKeptIn k.heap k.pool
   pub reserved : blocks_for cap k.quota ≤ reserved k.heap.tag k.pool
   pub newest : k.last ≡ newest_record k.heap.records
-  pub follows : IfSome k.last (Follows k.stepper)

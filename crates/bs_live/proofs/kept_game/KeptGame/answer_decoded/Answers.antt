@@ -6,8 +6,6 @@ use Rattle.bs_heap.specs.Heap.{Heap}
 use Rattle.bs_pool.specs.Ledger.{size}
 use Rattle.bs_live.specs.Game.{KeptBoards}
 use Rattle.bs_live.specs.inner.Game.{game_after, newest_record}
-use Rattle.bs_plane.specs.Following.{Follows}
-use Rattle.std.specs.Prelude.{IfSome}
 use Rattle.bs_live.proofs.Boards.{answered, change_fits, same_kept, told}
 use Rattle.bs_live.proofs.kept_game.KeptGame.answer_decoded.Goals as goal
 
@@ -49,8 +47,6 @@ invariant_of-self-2 g c =
       kept = changed.held;
       reserved = rw (tag, changed.reservations) kept.reserved;
       newest = renewed ∙ ap newest_record (sym records);
-      follows = subst (λ (o : Option (List ℕ)). IfSome o (Follows c.forget_by.new.stepper)) (sym renewed)
-          (c.forget_by.ensures inside.heap.records (subst (λ (o : Option (List ℕ)). IfSome o (Follows inside.stepper)) kept.newest kept.follows));
     }
 
 pub returns-clause-reply : goal.returns-clause-reply

@@ -1,20 +1,20 @@
 use Rattle.std.proofs.Common.{◌≡◌, ℕ, List, Option, map, refl, sym, ap, subst, ◌∙◌, arith}
-use Rattle.std.specs.Prelude.{IfSome}
+use Rattle.std.specs.Prelude.{is_some}
+use Rattle.std.proofs.lemmas.Bool.{false≢true}
 use Rattle.bs_board.specs.declared.commands.command.Command.TheVariants as command
 use Rattle.bs_board.specs.inner.Kept.{board_in}
 use Rattle.bs_game.specs.Answer.{answer_to, view_of_game}
 use Rattle.bs_game.specs.Law.{effected}
 use Rattle.bs_heap.specs.Heap.{Heap}
-use Rattle.bs_plane.specs.Following.{Follows}
 use Rattle.bs_pool.specs.Ledger.{size}
 use Rattle.bs_live.specs.Game.{KeptBoards}
 use Rattle.bs_live.specs.inner.Game.{game_after, newest_record}
 use Rattle.bs_live.proofs.Boards.{answered, change_fits, same_kept, told}
-use Rattle.bs_live.proofs.Newest.{effect_followed, move_seen, no_newest_no_move}
-use Rattle.bs_live.proofs.kept_game.KeptGame.answer_allowed.Goals as goal
+use Rattle.bs_live.proofs.Newest.{move_seen, newest_there}
+use Rattle.bs_live.proofs.kept_game.KeptGame.answer_move.Goals as goal
 
-pub answer_move-requires-clause-view : goal.answer_move-requires-clause-view
-answer_move-requires-clause-view g c =
+pub answer-requires : goal.answer-requires
+answer-requires g c =
     let inside = c.self.inside in
     let boards = map board_in inside.heap.records in
     let kept = c.self.invariant in
@@ -23,7 +23,7 @@ answer_move-requires-clause-view g c =
     let bytes = c.in-Some.last in
     let here = sym c.in-Some.is ∙ kept.newest in
     let of = move_seen inside.heap.records inside.quota c.args.self.now orders c.charge-charge.result (size inside.pool) bytes c.self.view_is kept.recorded kept.small c.charge-charge.ensures.value
-    c.charge-charge.ensures.within here c.requires in
+    c.charge-charge.ensures.within here in
     (view_of_game inside.quota boards order, of)
 
 pub change_records-requires : goal.change_records-requires
@@ -36,7 +36,7 @@ change_records-requires g c =
     let bytes = c.in-Some.last in
     let here = sym c.in-Some.is ∙ kept.newest in
     let of = move_seen inside.heap.records inside.quota c.args.self.now orders c.charge-charge.result (size inside.pool) bytes c.self.view_is kept.recorded kept.small c.charge-charge.ensures.value
-    c.charge-charge.ensures.within here c.requires in
+    c.charge-charge.ensures.within here in
     let is = told (view_of_game inside.quota boards order) c.in_ok-answer-in-Some.answer inside.quota boards order kept.recorded.right c.fits.ensures of.fit refl
     (c.in_ok-answer-in-Some.ensures.value (view_of_game inside.quota boards order) of) in (
       omega arith,
@@ -60,7 +60,7 @@ invariant_of-self-in-Some g c =
     let bytes = c.in-Some.last in
     let here = sym c.in-Some.is ∙ kept.newest in
     let of = move_seen inside.heap.records inside.quota c.args.self.now orders c.charge-charge.result (size inside.pool) bytes c.self.view_is kept.recorded kept.small c.charge-charge.ensures.value
-    c.charge-charge.ensures.within here c.requires in
+    c.charge-charge.ensures.within here in
     let is = told (view_of_game inside.quota boards order) c.in_ok-answer-in-Some.answer inside.quota boards order kept.recorded.right c.fits.ensures of.fit refl
     (c.in_ok-answer-in-Some.ensures.value (view_of_game inside.quota boards order) of) in
     let changed = c.change_records.ensures in
@@ -76,8 +76,6 @@ invariant_of-self-in-Some g c =
       kept = changed.held;
       reserved = rw (tag, changed.reservations) kept.reserved;
       newest = renewed ∙ ap newest_record (sym records);
-      follows = subst (λ (o : Option (List ℕ)). IfSome o (Follows c.answer_move.new.stepper)) (sym renewed)
-          (effect_followed c.in_ok-answer-in-Some.answer.effect inside.heap.records c.answer_move.new.stepper c.in_ok-answer-in-Some.ensures.follows);
     }
 
 pub returns-clause-reply : goal.returns-clause-reply
@@ -90,7 +88,7 @@ returns-clause-reply g c =
     let bytes = c.in-Some.last in
     let here = sym c.in-Some.is ∙ kept.newest in
     let of = move_seen inside.heap.records inside.quota c.args.self.now orders c.charge-charge.result (size inside.pool) bytes c.self.view_is kept.recorded kept.small c.charge-charge.ensures.value
-    c.charge-charge.ensures.within here c.requires in
+    c.charge-charge.ensures.within here in
     let is = told (view_of_game inside.quota boards order) c.in_ok-answer-in-Some.answer inside.quota boards order kept.recorded.right c.fits.ensures of.fit refl
     (c.in_ok-answer-in-Some.ensures.value (view_of_game inside.quota boards order) of) in
     subst (λ (v : KeptBoards). c.in_ok-answer-in-Some.answer.reply ≡ (answer_to v.quota v.game order).reply) c.self.view_is is.reply
@@ -105,7 +103,7 @@ returns-clause-game g c =
     let bytes = c.in-Some.last in
     let here = sym c.in-Some.is ∙ kept.newest in
     let of = move_seen inside.heap.records inside.quota c.args.self.now orders c.charge-charge.result (size inside.pool) bytes c.self.view_is kept.recorded kept.small c.charge-charge.ensures.value
-    c.charge-charge.ensures.within here c.requires in
+    c.charge-charge.ensures.within here in
     let is = told (view_of_game inside.quota boards order) c.in_ok-answer-in-Some.answer inside.quota boards order kept.recorded.right c.fits.ensures of.fit refl
     (c.in_ok-answer-in-Some.ensures.value (view_of_game inside.quota boards order) of) in
     let changed = c.change_records.ensures in
@@ -120,4 +118,5 @@ pub unreachable-requires : goal.unreachable-requires
 unreachable-requires g c =
     let inside = c.self.inside in
     let kept = c.self.invariant in
-    no_newest_no_move inside.heap.records inside.quota c.args.self.now c.args.orders.now (size inside.pool) c.self.view_is kept.recorded (sym c.in-None.is ∙ kept.newest) c.requires
+    let there = newest_there inside.heap.records inside.quota c.args.self.now (size inside.pool) c.self.view_is kept.recorded in
+    false≢true (ap is_some (sym c.in-None.is ∙ kept.newest) ∙ there ∙ c.requires)

@@ -21,7 +21,7 @@ use Rattle.bs_sched.proofs.Behind.{blocks_here, held_here, leaves_between, none_
 use Rattle.bs_sched.proofs.ChangedGame.{keeps_boards, open_ready}
 use Rattle.bs_sched.proofs.FramesJoined.{all_numbers, holds_none, lent, others}
 use Rattle.bs_sched.proofs.NextAnswer.{begun_boards, frames_idle, game_is_here, idle_parts, kept_here}
-use Rattle.bs_sched.proofs.game.Game.answer_here.Goals as goal
+use Rattle.bs_sched.proofs.game.Game.answer_with.Goals as goal
 
 pub returns-in_err-grow_index-clause-idle : goal.returns-in_err-grow_index-clause-idle
 returns-in_err-grow_index-clause-idle g c =
