@@ -13,9 +13,10 @@ from checker.command_file import MOST_FILE, Checked, Note, Refusal, check
 
 ABOUT = """Says what `arena` would refuse in a command file, and why: each fault with its line, the
 column of a JSON fault or the path of a member, and what the member may be. Then notes on what is
-taken but has no effect, and a summary, with the number of blocks to serve the file with. What
-depends on how the games go (G2 to G7) is not found. The status is 0 if nothing is refused, 1 if
-something is, and 2 if the file cannot be read."""
+taken but has no effect, and a summary, with the number of blocks to serve the file with. So it says
+in words what `arena` says by a code: `arena: plan P1` to `P4`, `arena: cannot read the file`, L1 to
+L3, A1 to A5 and G1. What depends on how the games go (G2 to G7) is not found. The status is 0 if
+nothing is refused, 1 if something is, and 2 if the file cannot be read."""
 REFUSED, UNREAD = 1, 2
 USUAL_BLOCKS = 64
 MOST_LINES = 50
