@@ -58,7 +58,7 @@ def summary(found: Checked) -> list[str]:
     lines = [
         f"version {found.version}, {counted(found.stays, 'game')}, "
         f"at most {found.most_open} at once; {counted(found.lines, 'line')}, {refused} refused",
-        f"accepted by their form: {kinds or 'none'}",
+        f"well formed: {kinds or 'none'}",
     ]
     plan = f" ({found.plan_blocks} for its plan)" if found.plan_blocks < found.most_blocks else ""
     blocks = f"serve it with --blocks {max(found.most_blocks, 1)} or more{plan}"

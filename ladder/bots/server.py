@@ -90,7 +90,7 @@ def serve(bots: Bots, port: int) -> None:
 def serve_during(command: Sequence[str], bots: Bots, port: int) -> int:
     """Serves bots while a command runs; returns its status.
 
-    Ctrl-C is for the command, which gets it from the terminal; SIGTERM is handed on to it.
+    Ctrl-C is for the command, which gets it from the terminal; SIGTERM is passed to it.
     """
     listener = listener_of(port)
     tell(bots, port, f"while {' '.join(command[:2])} runs")
