@@ -112,7 +112,7 @@ def decoded(line: bytes) -> str:
 
 
 def syntax_fault(text: str, at: int, message: str) -> JsonFault:
-    """The fault that Python's `json` found at a place, in words for who wrote the text."""
+    """The fault that Python's `json` found at a place, in words for the author of the text."""
     before = text[:at].rstrip(SPACE)
     here = text[at : at + 1]
     if not text.strip(SPACE):

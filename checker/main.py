@@ -13,9 +13,10 @@ from checker.command_file import MOST_FILE, Checked, Note, Refusal, check
 
 ABOUT = """Says what `arena` would refuse in a command file, and why: each fault with its line, the
 column of a JSON fault or the path of a member, and what the member may be. Then notes on what is
-taken but has no effect, and a summary, with the number of blocks to serve the file with. What
-depends on how the games go (G2 to G7) is not found. The status is 0 if nothing is refused, 1 if
-something is, and 2 if the file cannot be read."""
+taken but has no effect, and a summary, with the number of blocks to serve the file with. So it says
+in words what `arena` says by a code: `arena: plan P1` to `P4`, `arena: cannot read the file`, L1 to
+L3, A1 to A5 and G1. What depends on how the games go (G2 to G7) is not found. The status is 0 if
+nothing is refused, 1 if something is, and 2 if the file cannot be read."""
 REFUSED, UNREAD = 1, 2
 USUAL_BLOCKS = 64
 MOST_LINES = 50
@@ -57,7 +58,7 @@ def summary(found: Checked) -> list[str]:
     lines = [
         f"version {found.version}, {counted(found.stays, 'game')}, "
         f"at most {found.most_open} at once; {counted(found.lines, 'line')}, {refused} refused",
-        f"accepted by their form: {kinds or 'none'}",
+        f"well formed: {kinds or 'none'}",
     ]
     plan = f" ({found.plan_blocks} for its plan)" if found.plan_blocks < found.most_blocks else ""
     blocks = f"serve it with --blocks {max(found.most_blocks, 1)} or more{plan}"

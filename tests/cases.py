@@ -150,7 +150,7 @@ def played_alone(case):
 
 def long_file(folder):
     """Makes a file whose transcript is written in several pieces, by several threads if there are
-    so many workers."""
+    several workers."""
     at = Path(folder) / "long.jsonl"
     plan = '{"games":[{"game":"a","quota":16384}]}'
     first = '{"game":"a","do":"new","mode":"solo","width":25,"height":25,'

@@ -1,4 +1,4 @@
-"""Tests of how the library is had: the names that it exports, pkg-config, the wheel, the packages,
+"""Tests of how the library is installed: the names that it exports, pkg-config, the wheel, the packages,
 and the examples; for tests/library."""
 import re
 import shutil

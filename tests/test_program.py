@@ -23,7 +23,7 @@ BOTS = sorted((EXAMPLES / "bots").glob("*.moves"))
 REFUSED_PLAN = 4  # exit status
 LONGEST_FILE = 16_777_216  # bytes
 LARGE = 10  # rounds of many games, which are more than four megabytes
-# The lines of the first file's transcript that README.md shows.
+# The lines of the first file's transcript that docs/FIRST_FILE.md shows.
 SHOWN = [2, 3, 5]
 
 
@@ -65,12 +65,12 @@ class TestStored:
         for file in files:
             assert places[file.read_bytes()] == [file]
 
-    def test_the_readme_shows_the_first_file_and_some_of_its_transcript(self):
-        readme = (ROOT / "README.md").read_text()
+    def test_the_tutorial_shows_the_first_file_and_some_of_its_transcript(self):
+        page = (ROOT / "docs/FIRST_FILE.md").read_text()
         transcript = (EXAMPLES / "first_file.transcript").read_text().splitlines()
         shown = [transcript[at] for at in SHOWN]
         for text in [*(EXAMPLES / "first_file.jsonl").read_text().splitlines(), *shown]:
-            assert f"    {text}\n" in readme
+            assert f"    {text}\n" in page
 
 
 class TestWords:

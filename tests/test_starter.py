@@ -65,7 +65,7 @@ class Place:
         return {**os.environ, "PATH": paths, "ARENA_PROVED": f"{self.top}/proved", **more}
 
     def clone(self, name: str, **seconds: float) -> Path:
-        """A clone, whose crates take so many seconds each to prove."""
+        """A clone, whose crates take this many seconds each to prove."""
         root = self.top / name
         for crate in [*CRATES, "tests_left"]:
             source = root / f"crates/{crate}/src/{'main' if crate == 'arena' else 'lib'}.rt"
@@ -192,7 +192,7 @@ def wait_for(holds: Callable[[], bool]) -> None:
         if holds():
             return
         time.sleep(0.1)
-    pytest.fail("it did not come to hold")
+    pytest.fail("it never held")
 
 
 def running(folder: str) -> list[str]:

@@ -241,7 +241,7 @@ def end_of(snake):
     return snake["health"], snake["cause"], snake["by"], snake["out"]
 
 
-AHEAD = (2, 3)  # the cell that s comes to after its approach
+AHEAD = (2, 3)  # the cell that s enters after its approach
 ONTO_IT = moved("up", "right")
 ALIVE = (None, None, None)
 

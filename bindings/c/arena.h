@@ -347,7 +347,7 @@ static inline arena_many_starts arena_starts_of(size_t count, arena_settings set
  *     planes and heads are the last ones, to be copied, and a second call, with 1 for these games
  *     and 2 for all others, touches them alone. A reset of some games is that second call.
  *   - An environment a seat: the same calls. Seat s of game i sees planes 0 and 1 + s first, and
- *     the game starts anew once its last seat has been told of its end.
+ *     the game starts anew once its last seat has received its end.
  *
  * arena_small_food lists the cells with food, the oldest first, and arena_small_body the parts of a
  * seat, its head first, as far as there is room. They return the number of cells.

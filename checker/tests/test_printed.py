@@ -1,9 +1,13 @@
 """Tests of what arena-check prints."""
 import json
+import os
 import subprocess
+import sys
 
 import pytest
 from program import ROOT
+
+CHECK = ROOT / "checker/arena-check"
 
 PLAN = '{"games":[{"game":"a","quota":64}],"version":5}'
 NEW: dict = {
@@ -97,7 +101,7 @@ NO_PLANS = [
 
 def run_check(text, *words):
     ran = subprocess.run(
-        [ROOT / "checker/arena-check", "-", *words], input=text.encode(), capture_output=True
+        [CHECK, "-", *words], input=text.encode(), capture_output=True
     )
     return ran.returncode, ran.stdout.decode().splitlines(), ran.stderr.decode()
 
@@ -138,7 +142,7 @@ def test_what_needs_a_later_version():
 
 @pytest.mark.parametrize("text, why", NO_PLANS, ids=("empty", "UTF-16", "a command"))
 def test_what_stands_for_a_plan(text, why):
-    ran = subprocess.run([ROOT / "checker/arena-check", "-"], input=text, capture_output=True)
+    ran = subprocess.run([CHECK, "-"], input=text, capture_output=True)
     printed = ran.stdout.decode().splitlines()
     assert printed[0].startswith(f"-: {why}"), printed[0]
     assert "the first line has to be the plan, such as" in printed[-1]
@@ -160,7 +164,22 @@ def test_json():
 
 def test_a_file_that_cannot_be_read():
     ran = subprocess.run(
-        [ROOT / "checker/arena-check", "no such file"], capture_output=True, text=True
+        [CHECK, "no such file"], capture_output=True, text=True
     )
     assert (ran.returncode, ran.stdout) == (2, "")
     assert ran.stderr == "arena-check: no such file: No such file or directory\n"
+
+
+def test_a_python_without_jsonschema_hands_over_to_debians():
+    """`-S` leaves out all installed packages."""
+    words = [sys.executable, "-S", CHECK, "examples/first_file.jsonl"]
+    ran = subprocess.run(words, cwd=ROOT, capture_output=True, text=True)
+    assert (ran.returncode, ran.stderr) == (1, "")
+    assert ran.stdout.endswith(
+        "serve it with --blocks 6 or more; without the option there are 64\n"
+    )
+    second = {**os.environ, "ARENA_CHECK_IS_SECOND": "1"}
+    ran = subprocess.run(words, cwd=ROOT, capture_output=True, text=True, env=second)
+    assert (ran.returncode, ran.stdout) == (1, "")
+    assert "apt-get install python3-jsonschema" in ran.stderr
+    assert "pip install jsonschema" in ran.stderr

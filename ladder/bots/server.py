@@ -60,7 +60,15 @@ def listener_of(port: int) -> socket.socket:
     try:
         return socket.create_server(("127.0.0.1", port), backlog=BACKLOG)
     except OSError as fault:
-        sys.exit(f"serve: port {port} can't be used: {fault.strerror}; choose one by --port")
+        sys.exit(
+            f"serve: port {port} can't be used: {fault.strerror}. Does another ladder/bots/serve "
+            "run? --port chooses another port, which the URLs of the configuration have to name"
+        )
+
+
+def tell(bots: Bots, port: int, until: str) -> None:
+    """Says on the standard error what is served, where and how long."""
+    print(f"serve: {', '.join(bots)} at http://127.0.0.1:{port}/NAME, {until}", file=sys.stderr)
 
 
 def serve_on(listener: socket.socket, bots: Bots, has_signals: bool) -> None:
@@ -74,15 +82,18 @@ def serve_on(listener: socket.socket, bots: Bots, has_signals: bool) -> None:
 
 def serve(bots: Bots, port: int) -> None:
     """Serves bots on 127.0.0.1 until the process is stopped."""
-    serve_on(listener_of(port), bots, has_signals=True)
+    listener = listener_of(port)
+    tell(bots, port, "until Ctrl-C")
+    serve_on(listener, bots, has_signals=True)
 
 
 def serve_during(command: Sequence[str], bots: Bots, port: int) -> int:
     """Serves bots while a command runs; returns its status.
 
-    Ctrl-C is for the command, which gets it from the terminal; SIGTERM is handed on to it.
+    Ctrl-C is for the command, which gets it from the terminal; SIGTERM is passed to it.
     """
     listener = listener_of(port)
+    tell(bots, port, f"while {' '.join(command[:2])} runs")
     Thread(target=serve_on, args=(listener, bots, False), daemon=True).start()
     signal.signal(signal.SIGINT, lambda *_: None)  # unlike SIG_IGN, not inherited
     try:

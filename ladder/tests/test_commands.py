@@ -25,6 +25,9 @@ from served import (
     write_config,
 )
 
+from arena_ladder.play import NOBODY
+from arena_ladder.program import remembered_program
+
 
 @pytest.fixture(scope="module")
 def config(small_bots: Served, tmp_path_factory: pytest.TempPathFactory) -> Path:
@@ -93,7 +96,7 @@ def test_standings_have_three_forms(played: Path) -> None:
         *("bot games won drawn lost turns Elo ± median 99 % missed by cause".split())
     ]
     assert [line.split()[0] for line in table[1:-2]] == [row["bot"] for row in rows]
-    assert table[-1] == "the seed 1 was given: who knows it can foretell what is drawn"
+    assert table[-1] == "the seed 1 comes from the configuration: anyone who knows it can predict what is drawn"
     assert [{key: str(value) for key, value in row.items()} for row in rows] == texts
     assert sum(row["games"] for row in rows) == 30
     assert sum(row["wins"] for row in rows) <= 10
@@ -269,3 +272,32 @@ def test_faults_are_one_line(program: Path, config: Path, tmp_path: Path) -> Non
         ran = run_ladder(*words)
         assert ran.returncode == 1 and why in ran.stderr
         assert ran.stderr.startswith("ladder: ") and "Traceback" not in ran.stderr
+
+
+def test_the_folder_remembers_its_program_and_a_copy_does_not(
+    program: Path, config: Path, tmp_path: Path
+) -> None:
+    """`check` takes the program that `play` named; a copied folder names none, nor one of its own
+    file, so that nobody's folder has a program run."""
+    folder, arena = tmp_path / "results", tmp_path / "arena"
+    text = config.read_text()
+    mine = tmp_path / "mine.toml"
+    mine.write_text(re.sub(r'folder = ".*"', f'folder = "{folder}"', text))
+    arena.symlink_to(program)
+    assert run_ladder("play", mine, "--program", arena).returncode == 0
+    assert (folder / "program").read_text().splitlines()[0] == str(program.resolve())
+    assert remembered_program(folder) == program.resolve()
+    ran = run_ladder("check", folder)
+    assert (ran.returncode, ran.stderr) == (0, "")
+    copied = tmp_path / "copied"
+    shutil.copytree(folder, copied)
+    assert remembered_program(copied) is None
+    (folder / "program").write_text(f"{tmp_path / 'gone'}\n1 1\n")
+    assert remembered_program(folder) is None
+
+
+def test_bots_that_nobody_serves_are_named(program: Path, tmp_path: Path) -> None:
+    bots = [(name, f"http://127.0.0.1:1/{name}") for name in "ab"]
+    config = write_config(tmp_path / "x.toml", bots, folder=str(tmp_path / "results"), turns=3)
+    ran = run_ladder("play", config, "--program", program)
+    assert f"ladder: {NOBODY}\n" in ran.stderr

@@ -79,4 +79,6 @@ def test_small_bots_are_served_while_a_command_runs() -> None:
     )
     words: list[str | Path] = [HERE.parent / "bots" / "serve", "--port", str(port)]
     ran = subprocess.run([*words, sys.executable, "-c", ask], capture_output=True, text=True)
-    assert (ran.returncode, ran.stdout, ran.stderr) == (7, "200\n", "")
+    assert (ran.returncode, ran.stdout) == (7, "200\n")
+    said = f"serve: seeker, fleer, hungry, careful, lazy at http://127.0.0.1:{port}/NAME, "
+    assert ran.stderr == f"{said}while {sys.executable} -c runs\n"

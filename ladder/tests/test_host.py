@@ -32,8 +32,8 @@ async def refusal(work: Coroutine[Any, Any, Any]) -> str:
     return str(fault.value)
 
 
-def test_game_of_the_readme(program: Path) -> None:
-    """The first file of the README, command by command: its boards, charge and refusals."""
+def test_game_of_the_tutorial(program: Path) -> None:
+    """The first file of docs/FIRST_FILE.md, command by command: its boards, charge and refusals."""
 
     async def work() -> None:
         async with Host(program=program) as host:

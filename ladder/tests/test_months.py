@@ -131,7 +131,7 @@ def test_season_begins_while_the_ladder_plays(
     """Its standings count later games alone; those of the season before are kept."""
     folder = tmp_path / "x"
     config = config_for(tmp_path / "x.toml", folder, small_bots, pairing="rating")
-    games = 120  # so many that some are left when the command has started
+    games = 120  # some are left when the command has started
     playing = start_play(config, program, "--rounds", str(games))
     wait_for_games(folder, 10)
     began = run_ladder("season", folder, "spring")

@@ -268,7 +268,7 @@ def test_page_that_ends_or_hangs_is_served_again(
             await asyncio.sleep(0.5)
             _, state = (await events_at(link.address, 2))[0]
             assert state["boards"][GAME.name]["turn"] == 6
-            assert state["seed"] == "" or "the seed 1 was given" in state["seed"]
+            assert state["seed"] == "" or "the seed 1 comes from the configuration" in state["seed"]
         assert told == ["the page ended or did not answer; it is served again"]
 
     asyncio.run(work())

@@ -99,7 +99,7 @@ def test_bad_responses_have_their_cause(text: bytes, cause: str) -> None:
 @pytest.mark.parametrize("size", [1, 7, MOST_BYTES])
 @pytest.mark.parametrize("more", ["Content-Length: 14\r\n", "Connection: close\r\n"])
 def test_body_of_a_bad_status_is_kept_in_any_pieces(more: str, size: int) -> None:
-    """Servers write head and body apart; what a log shows of the answer is the body."""
+    """Servers write head and body separately; what a log shows of the answer is the body."""
     response = Response()
     head = f"HTTP/1.1 422 Unprocessable Entity\r\n{more}\r\n".encode()
     text = head + b'{"detail":"x"}'

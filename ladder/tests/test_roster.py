@@ -170,7 +170,7 @@ def wait_for_games(process: subprocess.Popen[str], folder: Path, count: int) -> 
 def test_bots_come_and_go_in_a_ladder_that_is_killed(
     program: Path, small_bots: Served, request: pytest.FixtureRequest, tmp_path: Path
 ) -> None:
-    """No game is lost or played twice, `check` agrees, and the ratings are computed apart."""
+    """No game is lost or played twice, `check` agrees, and the ratings are computed separately."""
     games = 300 if request.config.getoption("--all") else 40
     folder = tmp_path / "results"
     config = open_config(tmp_path, small_bots)

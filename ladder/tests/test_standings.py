@@ -103,7 +103,7 @@ def test_games_of_four_count_as_three_of_two() -> None:
 
 
 def test_ratings_of_200_bots_take_little_time() -> None:
-    """Less than 0.2 s of the processor for 4,000 games, apart from other programs."""
+    """Less than 0.2 s of the processor for 4,000 games, whatever other programs run."""
     draw = random.Random(3)
     names = [f"bot{at}" for at in range(200)]
     pairs = [draw.sample(range(200), 2) for _ in range(4000)]

@@ -108,7 +108,7 @@ def test_results_in_any_order_give_the_same_tournament(kind: str, count: int) ->
 
 
 def test_winner_of_the_losers_has_to_win_twice() -> None:
-    """The second final is played only if the first one is lost by who had not lost before."""
+    """The second final is played only if the bot that had not lost before loses the first one."""
 
     def upset(name: str, bots: tuple[str, ...]) -> Result:
         loser = "b1" if "b1" in bots and name[:5] == "r0005" else min(bots, key=strength)
@@ -207,7 +207,7 @@ def play_here(path: Path, program: Path) -> Path:
 def test_tournament_is_played_checked_and_goes_on(
     program: Path, small_bots: Served, tmp_path: Path, kind: str
 ) -> None:
-    """With the same command it plays nothing; a changed result changes who meets, and is found."""
+    """With the same command it plays nothing; a changed result changes the pairs, and is found."""
     path = write_config(
         tmp_path / "cup.toml",
         [(name, small_bots.url(name)) for name in SMALL],

@@ -304,7 +304,7 @@ class Core:
             into[:, -1] = self.games.hazards
 
     def infos(self) -> dict[str, np.ndarray]:
-        """Who lives, and why who died, by game and seat; the turn of each game."""
+        """Which snakes live, and what eliminated the others, by game and seat; each game's turn."""
         return {
             "alive": self.alive.copy(),
             "cause": self.seat_numbers("cause"),

@@ -81,13 +81,12 @@ def run_log(given: argparse.Namespace) -> int:
 
 def run_export(given: argparse.Namespace) -> int:
     """Prints a game as the official engine's frames, or the body of one request."""
+    program = program_of(given, given.folder)
     if given.bot is not None:
         turn = 0 if given.turn is None else given.turn
-        sys.stdout.buffer.write(
-            request_body(given.folder, given.game, given.bot, turn, program_of(given))
-        )
+        sys.stdout.buffer.write(request_body(given.folder, given.game, given.bot, turn, program))
         return 0
-    for line in frames(given.folder, given.game, program_of(given)):
+    for line in frames(given.folder, given.game, program):
         print(line)
     return 0
 

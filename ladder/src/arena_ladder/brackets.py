@@ -72,7 +72,7 @@ def seeded(entries: Sequence[Slot], seed: int) -> Slot:
 
 
 def double(builder: Builder, entries: Sequence[Slot]) -> None:
-    """A double elimination: who has lost twice is out.
+    """A double elimination: a bot that has lost twice is out.
 
     The losers of each round of the winners meet those that are left of the losers, from the other
     end of the bracket. If the winner of the losers wins the final, there is a second one.

@@ -1,4 +1,4 @@
-"""The look of each bot on the page: a colour and a mark, by which it is told from all others."""
+"""The look of each bot on the page: a colour and a mark, which distinguish it from all others."""
 
 from __future__ import annotations
 
@@ -34,7 +34,7 @@ def looks_of(bots: Sequence[str], chosen: Mapping[str, str]) -> Looks:
 
 
 def ours(count: int, given: list[Colour]) -> Iterator[str]:
-    """A number of our colours, apart from those that are given, as long as there are such."""
+    """A number of our colours, distinct from the given ones as long as there are such."""
     is_full = False
     for at in range(count):
         found = None if is_full else first_apart([*COLOURS, *hues(at, MOST_TRIES)], given)
@@ -53,7 +53,7 @@ def hues(at: int, count: int) -> Iterator[str]:
 
 
 def first_apart(colours: Iterable[str], given: Sequence[Colour]) -> str | None:
-    """The first colour that is apart from those that are given."""
+    """The first colour that is distinct from the given ones."""
     return next((colour for colour in colours if is_apart(colour, given)), None)
 
 

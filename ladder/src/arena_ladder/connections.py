@@ -251,7 +251,7 @@ class Connections:
             self._trimming = loop.call_later(TRIM_SECONDS, self._trim)
 
     def _trim(self) -> None:
-        """Closes the connections that are idle for long: so many were used at once, once."""
+        """Closes the connections that have been idle for long, after a peak."""
         self._trimming = None
         before = asyncio.get_running_loop().time() - IDLE_SECONDS
         for owner in self.owners.values():

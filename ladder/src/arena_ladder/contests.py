@@ -18,7 +18,7 @@ from arena_ladder.lock import locked
 from arena_ladder.match import bots_of_words
 from arena_ladder.pairing import Part
 from arena_ladder.play import Job, play
-from arena_ladder.program import add_program, program_of
+from arena_ladder.program import add_program, program_of, remember_program
 from arena_ladder.progress import Counts, ProgressBar
 from arena_ladder.seeds import with_seed
 from arena_ladder.sprt import Sprt
@@ -85,7 +85,8 @@ def play_contest(given: argparse.Namespace, bots: list[str], sprt: Sprt | None) 
             for outcome in store.outcomes():
                 sprt.end(outcome)
         if sprt is None or not sprt.is_decided:
-            job = Job(config, config.folder, Part(1, 1), program_of(given))
+            job = Job(config, config.folder, Part(1, 1), program_of(given, config.folder))
+            remember_program(config.folder, given)
             asyncio.run(play_until(job, store, sprt))
 
 

@@ -33,7 +33,7 @@ from arena_ladder.merge import merge
 from arena_ladder.page_link import Address, PageFault, PageLink, address_of
 from arena_ladder.pairing import Part, part_of
 from arena_ladder.play import Job, play
-from arena_ladder.program import ProgramFault, add_program, program_of
+from arena_ladder.program import ProgramFault, add_program, program_of, remember_program
 from arena_ladder.progress import Counts, ProgressBar
 from arena_ladder.results_page import add_page_command
 from arena_ladder.roster_commands import add_roster_commands
@@ -96,9 +96,10 @@ def play_config(config: Config, given: argparse.Namespace) -> int:
     part = given.part or Part(1, 1)
     folder = config.folder / str(part) if given.part else config.folder
     ends_at = math.inf if given.hours is None else time.monotonic() + 3600 * given.hours
-    job = Job(config, folder, part, program_of(given), ends_at)
+    job = Job(config, folder, part, program_of(given, folder), ends_at)
     counts = Counts()
     make_folders(folder)
+    remember_program(folder, given)
     with locked(folder), closing(Store(folder)) as store:
         asyncio.run(play_job(job, store, counts, given.page))  # waits for its threads
     ends = [f"it has its {config.rounds:,} games: --rounds, or `rounds`, lets it go on"]
@@ -144,7 +145,9 @@ def run_check(given: argparse.Namespace) -> int:
     console = Console(stderr=True)
     with console.status("checking") as status:
         checked = check(
-            given.folder, program_of(given), lambda games: status.update(f"{games} games checked")
+            given.folder,
+            program_of(given, given.folder),
+            lambda games: status.update(f"{games} games checked"),
         )
     for name, why in checked.faults.items():
         print(fit_text(f"{name}: {why}"))

@@ -34,7 +34,7 @@ def marks_of(store: Store) -> dict[str, Mark] | None:
 
 
 def mark_of(marks: dict[str, Mark] | None, bot: str, games: int) -> Mark:
-    """The mark of a bot with so many games."""
+    """The mark of a bot with this number of games."""
     if marks is None:
         return Mark.NONE
     return marks.get(bot, Mark.NEW if games < FEW_GAMES else Mark.NONE)

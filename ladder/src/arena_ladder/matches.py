@@ -1,4 +1,4 @@
-"""Matches of a tournament: two bots, some games between them, and who goes on.
+"""Matches of a tournament: two bots, their games, and the winner.
 
 Games of a match come in pairs of one start with the seats changed. A match that has to have a
 winner and has none goes on by such pairs, MOST_EXTRA at most; then the better seed goes on.

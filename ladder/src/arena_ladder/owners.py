@@ -66,7 +66,7 @@ class Owner:
             connection.rest()
 
     def wait(self, request: object) -> None:
-        """A request on a fresh connection has had no answer for long."""
+        """A request on a fresh connection is still without an answer."""
         if self.used and not self.is_parallel:
             self.unread.add(request)
             self.close()

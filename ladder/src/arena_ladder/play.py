@@ -32,6 +32,10 @@ from arena_ladder.urls import shown
 from arena_ladder.watch import Watch, Watches
 
 LOOK_AGAIN_SECONDS = 60.0
+NOBODY = (
+    "no bot answered. Are they served? What a bot that is not there misses counts all the same. "
+    "ladder/bots/serve COMMAND .. serves the small bots while a command runs"
+)
 
 Source = Schedule | Endless | Playing
 
@@ -95,6 +99,8 @@ async def run_context(job: Job, client: BotClient, watch: Watch) -> RunContext:
     looks: dict[str, Look] = {}
     client.trust(job.config.bots)
     await ask_looks(job.config.bots, client, looks, watch)
+    if not looks:
+        watch.say(NOBODY)
     return RunContext(
         config=job.config,
         folder=job.folder,

@@ -23,7 +23,7 @@ from arena_ladder.watch import Watch
 REFRESHES_A_SECOND = 4
 ENOUGH_MOVES = 30  # for a median
 MOST_OWN = 10_000  # tenths of a millisecond; longer times count as so long
-PARTS = 32  # a time is rounded down by less than a part in so many
+PARTS = 32  # a time is rounded down by less than one part in this number
 GROWTH, GROWTH_MS = 1.5, 10  # a median that grows by more depends on the number of games
 
 

@@ -18,7 +18,7 @@ class Race(Generic[Found]):
     """Attempts to connect to addresses, each begun a little after the one before it.
 
     An attempt begins at once when the one before it has failed. `failed` has the addresses whose
-    attempts failed, or had no result when another one accepted or when the race was given up.
+    attempts failed, or had no result when another one accepted or when the race was abandoned.
     `drop` is called with what a second attempt yields, once another one has won.
     """
 

@@ -38,8 +38,8 @@ class Rating:
     error: float
 
 
-# Two bots, a number of seats, and of the games of so many in which they met: all, those in which
-# the first lived longer, and those in which neither did.
+# Two bots, a number of seats, and counts of the games of that many seats in which they met: all,
+# those in which the first lived longer, and those in which neither did.
 Pair = tuple[str, str, int, int, int, int]
 NONE: Mapping[str, str] = MappingProxyType({})
 

@@ -51,7 +51,7 @@ async def serve_results(folder: Path, program: Path, address: Address) -> None:
 
 def run_page(given: argparse.Namespace) -> int:
     """Serves the results of a folder until Ctrl-C or SIGTERM."""
-    program = program_of(given)
+    program = program_of(given, given.folder)
     use_one_heap()
     open_store(given.folder).close()  # finds faults before the page is served
     asyncio.run(serve_results(given.folder, program, given.address))

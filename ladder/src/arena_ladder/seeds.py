@@ -46,7 +46,8 @@ def seed_line(identity: dict[str, Any], is_closed: bool) -> str:
     """What everybody may know of a ladder's seed."""
     seed = str(identity["seed"])
     if identity.get("has_seed", True):
-        return f"the seed {seed} was given: who knows it can foretell what is drawn"
+        why = "comes from the configuration: anyone who knows it can predict what is drawn"
+        return f"the seed {seed} {why}"
     digest = f"the SHA-256 of its digits is {hashlib.sha256(seed.encode()).hexdigest()}"
     return f"the seed was {seed}; {digest}" if is_closed else f"the seed is secret; {digest}"
 

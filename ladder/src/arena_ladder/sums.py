@@ -222,7 +222,7 @@ class Sums:
 
 
 def pair_of(one: Finish, other: Finish) -> tuple[tuple[str, str], tuple[bool, bool]]:
-    """Two seats of a game, in the order of their names: who they are, and how they ended."""
+    """Two seats of a game, in the order of their names: their bots, and how they ended."""
     first, second = sorted((one, other), key=lambda it: it.bot)
     lived = [float("inf") if it.out is None else it.out for it in (first, second)]
     return (first.bot, second.bot), (lived[0] > lived[1], lived[0] == lived[1])

@@ -26,7 +26,7 @@ class Wire(Protocol):
 
 
 class Reader(Protocol):
-    """What is told of the text that a server sends."""
+    """Receives the text that a server sends."""
 
     def data_received(self, data: bytes) -> None:
         ...
@@ -43,7 +43,7 @@ class Tls(asyncio.BufferedProtocol):
 
     A server may send tickets, new keys and alerts without end. They cost this program far more
     than their bytes, and no reader of answers sees them. So between two requests any byte ends the
-    connection, before OpenSSL sees it; and a server may send only so many bytes for an answer.
+    connection, before OpenSSL sees it, and the bytes that a server sends for an answer are limited.
     `is_done` is set by the handshake; it has the fault if that failed.
     """
 

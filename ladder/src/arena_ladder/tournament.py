@@ -60,7 +60,7 @@ class Tournament:
         if one is None or two is None:
             return
         if match.stage == SECOND and self.is_won_by_winners(match):
-            one, two = one, BYE  # who has lost is out
+            one, two = one, BYE  # the loser is out
         match.play((one, two), self.draws, self.results)
 
     def is_won_by_winners(self, second: Match) -> bool:
@@ -115,7 +115,7 @@ class Tournament:
 
     @property
     def champion(self) -> str:
-        """Who has won the tournament; nobody before its end."""
+        """The winner of the tournament; None before its end."""
         if not self.is_over:
             return BYE
         if self.config.pairing == "swiss":

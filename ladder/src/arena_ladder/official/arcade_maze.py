@@ -37,7 +37,7 @@ FIRST, SECOND = (tuple(drawn_cells(MAZE, mark)) for mark in "st")
 
 
 class ArcadeMaze(OfficialMap):
-    """Who enters a wall is out."""
+    """A snake that enters a wall is eliminated."""
 
     name = "arcade_maze"
     sides = (19, 21)
