@@ -33,17 +33,17 @@ from arena_ladder.kept_answers import KeptAnswers
 from arena_ladder.outcome import Finish, Outcome, SeatResult, Tally
 from arena_ladder.pairing import Fixture
 from arena_ladder.play import Run
-from arena_ladder.progress import Counts, rough
+from arena_ladder.progress import MOST_MS, Counts
 from arena_ladder.rated import Change
 from arena_ladder.roster import add_config_bots, mark, replace
 from arena_ladder.store import Store
+from arena_ladder.times import Times
 from arena_ladder.transcripts import Transcripts
 from arena_ladder.urls import request_of, target_of
 from arena_ladder.watch import Watches
 
 SECONDS = 5.0
 REPLACES = 12
-LONGEST_MS = 60_000  # of a time to move
 
 
 async def until(holds: Callable[[], bool]) -> None:
@@ -207,14 +207,32 @@ def test_run_keeps_nothing_of_replaced_bots(tmp_path: Path) -> None:
         asyncio.run(work(store))
 
 
-def test_few_different_times_are_counted() -> None:
-    """A time is exact below 64 ms, and rounded by less than a part in 32 above that."""
+def test_counts_of_times_stay_as_small() -> None:
+    """However many different times there are."""
     counts = Counts()
-    for ms in [*range(1, 600), *range(600, LONGEST_MS, 7)]:
-        assert 0 <= ms - rough(ms) <= ms / 32 and (ms >= 64 or rough(ms) == ms)
+    counts.count({"slow": Answer("up", None, 1)}, 0.001)
+    counted = [counts.own, counts.strain.latencies["slow"][0]]
+    sizes = [sys.getsizeof(it.counts) for it in counted]
+    assert sum(sizes) < 8000
+    for ms in [*range(600), *range(600, 2 * MOST_MS, 7)]:
         counts.count({"slow": Answer("up", None, ms)}, ms / 1000)
-    assert len(counts.strain.latencies["slow"][0]) < 400
-    assert len(counts.own) <= 10_000
+    assert [sys.getsizeof(it.counts) for it in counted] == sizes
+    assert {it.total() for it in counted} == {1 + 600 + len(range(600, 2 * MOST_MS, 7))}
+
+
+def test_times_are_exact_or_a_little_rounded() -> None:
+    """A time is exact below 64, and rounded down by less than a part in 32 above that."""
+    for ms in [*range(600), *range(600, MOST_MS, 97), MOST_MS]:
+        times = Times(MOST_MS)
+        times.add(ms)
+        kept = times.quantile(0.5)
+        assert kept is not None and 0 <= ms - kept <= ms / 32
+        assert kept == ms or ms >= 64
+    times = Times(50)
+    for ms in (10, 20, 30, 70):
+        times.add(ms)
+    assert [times.quantile(it) for it in (0.25, 0.5, 0.75, 1)] == [10, 20, 30, 50]
+    assert Times(50).quantile(0.5) is None
 
 
 def test_ended_games_leave_no_bots_in_the_counts() -> None:
