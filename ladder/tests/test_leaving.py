@@ -76,8 +76,8 @@ def test_connections_that_are_idle_for_long_are_closed(monkeypatch: pytest.Monke
                     await asyncio.sleep(0.05)
 
             await asyncio.wait_for(work_alone(), SECONDS)
-            assert server.connections == 4 and len(owner.used) == 1
-            await until(lambda: not owner.used)
+            assert server.connections == 4 and len(owner.server.used) == 1
+            await until(lambda: not owner.server.used)
 
     run(work())
 
@@ -107,7 +107,7 @@ def test_connections_of_a_bot_that_left_are_closed() -> None:
             answering.set()
             assert [(await it).body for it in asked] == [b"{}", b"{}"]
             await until(lambda: len(ended) == 2)
-            assert not pool.owners
+            assert not pool.owners and not pool.servers
 
     run(work())
 
