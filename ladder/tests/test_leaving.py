@@ -276,3 +276,32 @@ def test_all_threads_use_one_heap() -> None:
     for script, is_one in ((HEAPS, True), (HEAPS.replace("\nuse_one_heap()", ""), False)):
         ran = subprocess.run([sys.executable, "-c", script], capture_output=True, text=True)
         assert ran.returncode == 0 and (ran.stderr.count("Arena ") == 1) is is_one, ran.stderr
+
+
+GAPS = """
+import asyncio, ctypes, os, sys
+from arena_ladder import heap
+heap.use_one_heap()
+heap.TRIM_SECONDS = 0.1
+def resident():
+    return int(open("/proc/self/statm").read().split()[1]) * os.sysconf("SC_PAGE_SIZE")
+async def work():
+    before = resident()
+    blocks = [b"%d" % at * 1500 for at in range(10_000, 20_000)]
+    kept = blocks[::10]
+    grown = resident() - before
+    del blocks
+    trimming = asyncio.create_task(heap.keep_heap_small())
+    await asyncio.sleep(float(sys.argv[1]))
+    print(grown, resident() - before, len(kept))
+asyncio.run(work())
+"""
+
+
+def test_memory_between_blocks_that_are_used_goes_back() -> None:
+    """Of blocks of 7.5 KB each tenth stays. Without a trim so does nearly all of their memory."""
+    for seconds, is_small in (("0", False), ("1", True)):
+        ran = subprocess.run([sys.executable, "-c", GAPS, seconds], capture_output=True, text=True)
+        grown, left, kept = map(int, ran.stdout.split())
+        assert kept == 1000 and grown > 60_000_000
+        assert (left < grown / 3) is is_small
