@@ -33,17 +33,17 @@ from arena_ladder.kept_answers import KeptAnswers
 from arena_ladder.outcome import Finish, Outcome, SeatResult, Tally
 from arena_ladder.pairing import Fixture
 from arena_ladder.play import Run
-from arena_ladder.progress import Counts, rough
+from arena_ladder.progress import MOST_MS, Counts
 from arena_ladder.rated import Change
 from arena_ladder.roster import add_config_bots, mark, replace
 from arena_ladder.store import Store
+from arena_ladder.times import Times
 from arena_ladder.transcripts import Transcripts
 from arena_ladder.urls import request_of, target_of
 from arena_ladder.watch import Watches
 
 SECONDS = 5.0
 REPLACES = 12
-LONGEST_MS = 60_000  # of a time to move
 
 
 async def until(holds: Callable[[], bool]) -> None:
@@ -76,8 +76,8 @@ def test_connections_that_are_idle_for_long_are_closed(monkeypatch: pytest.Monke
                     await asyncio.sleep(0.05)
 
             await asyncio.wait_for(work_alone(), SECONDS)
-            assert server.connections == 4 and len(owner.used) == 1
-            await until(lambda: not owner.used)
+            assert server.connections == 4 and len(owner.server.used) == 1
+            await until(lambda: not owner.server.used)
 
     run(work())
 
@@ -107,7 +107,7 @@ def test_connections_of_a_bot_that_left_are_closed() -> None:
             answering.set()
             assert [(await it).body for it in asked] == [b"{}", b"{}"]
             await until(lambda: len(ended) == 2)
-            assert not pool.owners
+            assert not pool.owners and not pool.servers
 
     run(work())
 
@@ -207,14 +207,32 @@ def test_run_keeps_nothing_of_replaced_bots(tmp_path: Path) -> None:
         asyncio.run(work(store))
 
 
-def test_few_different_times_are_counted() -> None:
-    """A time is exact below 64 ms, and rounded by less than a part in 32 above that."""
+def test_counts_of_times_stay_as_small() -> None:
+    """However many different times there are."""
     counts = Counts()
-    for ms in [*range(1, 600), *range(600, LONGEST_MS, 7)]:
-        assert 0 <= ms - rough(ms) <= ms / 32 and (ms >= 64 or rough(ms) == ms)
+    counts.count({"slow": Answer("up", None, 1)}, 0.001)
+    counted = [counts.own, counts.strain.latencies["slow"][0]]
+    sizes = [sys.getsizeof(it.counts) for it in counted]
+    assert sum(sizes) < 8000
+    for ms in [*range(600), *range(600, 2 * MOST_MS, 7)]:
         counts.count({"slow": Answer("up", None, ms)}, ms / 1000)
-    assert len(counts.strain.latencies["slow"][0]) < 400
-    assert len(counts.own) <= 10_000
+    assert [sys.getsizeof(it.counts) for it in counted] == sizes
+    assert {it.total() for it in counted} == {1 + 600 + len(range(600, 2 * MOST_MS, 7))}
+
+
+def test_times_are_exact_or_a_little_rounded() -> None:
+    """A time is exact below 64, and rounded down by less than a part in 32 above that."""
+    for ms in [*range(600), *range(600, MOST_MS, 97), MOST_MS]:
+        times = Times(MOST_MS)
+        times.add(ms)
+        kept = times.quantile(0.5)
+        assert kept is not None and 0 <= ms - kept <= ms / 32
+        assert kept == ms or ms >= 64
+    times = Times(50)
+    for ms in (10, 20, 30, 70):
+        times.add(ms)
+    assert [times.quantile(it) for it in (0.25, 0.5, 0.75, 1)] == [10, 20, 30, 50]
+    assert Times(50).quantile(0.5) is None
 
 
 def test_ended_games_leave_no_bots_in_the_counts() -> None:
@@ -258,3 +276,32 @@ def test_all_threads_use_one_heap() -> None:
     for script, is_one in ((HEAPS, True), (HEAPS.replace("\nuse_one_heap()", ""), False)):
         ran = subprocess.run([sys.executable, "-c", script], capture_output=True, text=True)
         assert ran.returncode == 0 and (ran.stderr.count("Arena ") == 1) is is_one, ran.stderr
+
+
+GAPS = """
+import asyncio, ctypes, os, sys
+from arena_ladder import heap
+heap.use_one_heap()
+heap.TRIM_SECONDS = 0.1
+def resident():
+    return int(open("/proc/self/statm").read().split()[1]) * os.sysconf("SC_PAGE_SIZE")
+async def work():
+    before = resident()
+    blocks = [b"%d" % at * 1500 for at in range(10_000, 20_000)]
+    kept = blocks[::10]
+    grown = resident() - before
+    del blocks
+    trimming = asyncio.create_task(heap.keep_heap_small())
+    await asyncio.sleep(float(sys.argv[1]))
+    print(grown, resident() - before, len(kept))
+asyncio.run(work())
+"""
+
+
+def test_memory_between_blocks_that_are_used_goes_back() -> None:
+    """Of blocks of 7.5 KB each tenth stays. Without a trim so does nearly all of their memory."""
+    for seconds, is_small in (("0", False), ("1", True)):
+        ran = subprocess.run([sys.executable, "-c", GAPS, seconds], capture_output=True, text=True)
+        grown, left, kept = map(int, ran.stdout.split())
+        assert kept == 1000 and grown > 60_000_000
+        assert (left < grown / 3) is is_small

@@ -178,11 +178,16 @@ class Walker(Handler):
         self.send(b'{"move":"%b"}' % (b"up", b"left", b"down", b"right")[state["turn"] % 4])
 
 
-def test_server_of_one_thread_is_named_while_it_plays(program: Path, tmp_path: Path) -> None:
-    """Once for each bot that it serves, with what to do; and they miss no move."""
+@pytest.mark.parametrize("paths", [("", ""), ("/one", "/other")], ids=["one path", "two paths"])
+def test_server_of_one_thread_is_named_while_it_plays(
+    program: Path, tmp_path: Path, paths: tuple[str, str]
+) -> None:
+    """Once for each bot that it serves, with what to do; and they miss no move. The connection of
+    one bot holds up the other one, also under another path."""
     rules = {"folder": str(tmp_path / "x"), "rounds": 2, "turns": 20, "timeout": 2000}
     with python_server(http.server.HTTPServer, Walker) as url:
-        bots = [("one", url), ("other", url)]  # each turn asks it twice at the same time
+        # each turn asks it twice at the same time
+        bots = [(name, url + path) for name, path in zip(("one", "other"), paths)]
         config = write_config(tmp_path / "x.toml", bots, seed=1, **rules)
         ran = run_ladder("play", config, "--program", program)
     assert ran.returncode == 0, ran.stderr

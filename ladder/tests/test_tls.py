@@ -107,7 +107,7 @@ def test_quiet_bot_keeps_its_connection_behind_tls(
             answers = [(await client.moves([(url, b"{}")]))[0] for _ in range(10)]
             assert [it.move for it in answers] == ["up"] * 10
             (owner,) = client.connections.owners.values()
-            assert len(owner.idle) == len(owner.used) == 1
+            assert len(owner.idle) == len(owner.server.used) == 1
 
     asyncio.run(work())
 

@@ -1,14 +1,15 @@
 # Chromium without a window: found, or installed from Debian's packages, and driven over the
 # WebDriver protocol.
 import base64
-import json
 import os
 import shutil
 import subprocess
 import tempfile
 import time
-import urllib.error
-import urllib.request
+from contextlib import suppress
+from pathlib import Path
+
+from testing.driver import NoAnswer, start_driver
 
 PACKAGES = {
     "chromium": ["chromium", "fonts-dejavu-core"],
@@ -25,8 +26,10 @@ PATIENCE = [
     "Acquire::https::Timeout=20",
 ]
 INSTALL_SECONDS = 900
-ANSWER_SECONDS = 120
-DRIVER_STARTS = 5
+PAGE_MILLISECONDS = 60_000  # until a page is loaded
+SCRIPT_MILLISECONDS = 30_000  # of a script in it
+CLOSING_SECONDS = 20
+MOST_STARTS = 2
 
 
 class NotToBeHad(Exception):
@@ -62,41 +65,46 @@ def install():
             )
 
 
-def start_driver():
-    """Starts the driver. Returns it with the port that it chose, which is in a line of its output.
-    It ends at once if another program took that port meanwhile; then it is started again."""
-    for _ in range(DRIVER_STARTS):
-        driver = subprocess.Popen(
-            [shutil.which("chromedriver"), "--port=0"],
-            stdout=subprocess.PIPE,
-            stderr=subprocess.DEVNULL,
-            text=True,
-        )
-        for line in driver.stdout:
-            if "started successfully on port" in line:
-                return driver, int(line.split("port")[1].strip(" .\n"))
-        driver.stdout.close()
-        driver.wait()
-    raise RuntimeError("chromedriver did not start")
-
-
 class Browser:
-    """A window of Chromium and its driver. It resolves no host name but 127.0.0.1."""
+    """A window of Chromium and its driver. It resolves no host name but 127.0.0.1.
+
+    A driver that does not answer fails the test that asked it, and is ended with its Chromium. The
+    next call starts another one, but only once: after that each call fails at once.
+    """
 
     def __init__(self):
-        self.profile = tempfile.mkdtemp(prefix="viewer-chromium-")
-        self.driver, port = start_driver()
-        self.root = f"http://127.0.0.1:{port}"
+        self.folder = Path(tempfile.mkdtemp(prefix="viewer-chromium-"))
+        self.driver = None
         self.session = None
+        self.starts = 0
+        self.why = ""  # the last driver was ended
         try:
-            self.session = self.call(
-                "POST", "/session", {"capabilities": {"alwaysMatch": self.wishes()}}
-            )["sessionId"]
+            self.start()
         except BaseException:
             self.close()
             raise
 
-    def wishes(self):
+    def start(self):
+        """Starts a driver and its Chromium."""
+        while self.session is None:
+            if self.starts == MOST_STARTS:
+                raise NoAnswer(f"Chromium did not answer {MOST_STARTS} times: {self.why}")
+            self.starts += 1
+            profile = self.folder / f"profile{self.starts}"
+            self.driver = start_driver(self.folder / f"driver{self.starts}.log")
+            try:
+                wishes = {"capabilities": {"alwaysMatch": self.wishes(profile)}}
+                self.session = self.driver.ask("POST", "/session", wishes)["sessionId"]
+            except NoAnswer as fault:
+                self.end(fault)
+
+    def end(self, fault):
+        """Ends the driver because of a fault."""
+        self.session, self.why = None, str(fault)
+        driver, self.driver = self.driver, None
+        driver.end()
+
+    def wishes(self, profile):
         words = [
             "--headless=new",
             "--no-sandbox",
@@ -104,26 +112,23 @@ class Browser:
             "--window-size=1500,1250",
             "--force-device-scale-factor=1",
             "--host-resolver-rules=MAP * ~NOTFOUND, EXCLUDE 127.0.0.1",
-            f"--user-data-dir={self.profile}",
+            f"--user-data-dir={profile}",
         ]
         return {
             "browserName": "chrome",
             "goog:chromeOptions": {"binary": shutil.which("chromium"), "args": words},
             "goog:loggingPrefs": {"browser": "SEVERE"},
+            "timeouts": {"pageLoad": PAGE_MILLISECONDS, "script": SCRIPT_MILLISECONDS},
         }
 
     def call(self, method, path, body=None):
-        """The driver's answer to a request. Every path but /session is below the session."""
-        address = self.root + (path if path == "/session" else f"/session/{self.session}{path}")
-        request = urllib.request.Request(
-            address, None if body is None else json.dumps(body).encode(), method=method
-        )
+        """The driver's answer to a request, whose path is below the session."""
+        self.start()
         try:
-            with urllib.request.urlopen(request, timeout=ANSWER_SECONDS) as answer:
-                return json.load(answer)["value"]
-        except urllib.error.HTTPError as fault:
-            value = json.load(fault)["value"]
-            raise RuntimeError(f"{method} {path}: {value['error']}: {value['message']}") from None
+            return self.driver.ask(method, f"/session/{self.session}{path}", body)
+        except NoAnswer as fault:
+            self.end(fault)
+            raise
 
     def go(self, address):
         """Loads a page, even if its address differs from the old one only after the `#`."""
@@ -212,9 +217,9 @@ class Browser:
             time.sleep(0.005)
 
     def close(self):
-        if self.session is not None:
-            self.call("DELETE", "")
-        self.driver.terminate()
-        self.driver.wait()
-        self.driver.stdout.close()
-        shutil.rmtree(self.profile, ignore_errors=True)
+        if self.driver is not None:
+            with suppress(NoAnswer, RuntimeError):
+                if self.session is not None:
+                    self.driver.ask("DELETE", f"/session/{self.session}", seconds=CLOSING_SECONDS)
+            self.driver.end()
+        shutil.rmtree(self.folder, ignore_errors=True)

@@ -7,12 +7,11 @@ import errno
 import select
 import socket
 import ssl
-from collections import defaultdict
 from collections.abc import Callable, Collection, Sequence
 
 from arena_ladder.addresses import AddressBook
 from arena_ladder.misses import BadAnswer, Miss
-from arena_ladder.owners import UNREAD_SHARE, Owner
+from arena_ladder.owners import UNREAD_SHARE, Owner, Server
 from arena_ladder.racing import Race
 from arena_ladder.response import NOTHING, Response
 from arena_ladder.tls import Tls, Wire, client_context
@@ -25,7 +24,7 @@ OWN_FAULTS = (  # of this machine, so that no bot is blamed
 )
 
 
-NOBODY = Owner()
+NOBODY = Owner(Server())
 
 
 class Exchange:
@@ -204,7 +203,7 @@ class Connection(asyncio.Protocol):
         assert exchange is not None
         exchange.end(cause, self.response.body)
         self.owner.answer(self, exchange, exchange.ended_at - exchange.began_at)
-        self.owner.unread.discard(exchange)
+        self.owner.server.unread.discard(exchange)
         if cause is None and self.response.keeps and self.is_open:
             self.owner.keep(self)
         else:
@@ -219,7 +218,8 @@ class Connections:
 
     def __init__(self, addresses: AddressBook) -> None:
         self.addresses = addresses
-        self.owners: defaultdict[str, Owner] = defaultdict(Owner)  # by the address of the bot
+        self.owners: dict[str, Owner] = {}  # by the address of the bot
+        self.servers: dict[Place, Server] = {}
         self.secure = client_context()
         self.trusted: dict[str, ssl.SSLContext] = {}  # by the address of a bot with its own
         self.permits: Callable[[str, str], bool] = lambda bot, address: True
@@ -243,6 +243,7 @@ class Connections:
         """Forgets all bots but these, and closes the connections of the others."""
         for bot in [it for it in self.owners if it not in bots]:
             self.owners.pop(bot).go()
+        self.servers = {place: it for place, it in self.servers.items() if it.owners}
 
     def trim_later(self) -> None:
         """Looks after a while for connections that are idle for long, unless it will."""
@@ -260,8 +261,15 @@ class Connections:
             self.trim_later()
 
     def serial_bots(self) -> list[str]:
-        """The addresses of the bots that serve one connection at a time."""
-        return [bot for bot, owner in self.owners.items() if owner.is_serial]
+        """The addresses of the bots whose servers serve one connection at a time."""
+        return [bot for bot, owner in self.owners.items() if owner.server.is_serial]
+
+    def _owner_of(self, exchange: Exchange) -> Owner:
+        """The bot that a request is for."""
+        if exchange.bot not in self.owners:
+            server = self.servers.setdefault(exchange.place, Server())
+            self.owners[exchange.bot] = Owner(server)
+        return self.owners[exchange.bot]
 
     async def ask(self, exchanges: Sequence[Exchange]) -> None:
         """Sends requests, all at once, and waits until each has its answer or a cause.
@@ -278,11 +286,11 @@ class Connections:
         finally:
             for exchange in exchanges:
                 exchange.abandon()
-                exchange.owner.unread.discard(exchange)
+                exchange.owner.server.unread.discard(exchange)
 
     def _start(self, exchange: Exchange) -> None:
         """Sends a request on an idle connection, or makes one for it."""
-        exchange.owner = self.owners[exchange.bot]
+        exchange.owner = self._owner_of(exchange)
         connection = exchange.owner.take()
         if isinstance(connection, Connection):
             exchange.is_reused = True
@@ -298,10 +306,10 @@ class Connections:
         exchange.looks = exchange.loop.call_later(seconds, self._look_at, exchange)
 
     def _look_at(self, exchange: Exchange) -> None:
-        """Closes idle connections of a bot that may not have read a request because of them."""
+        """Closes idle connections of a server that may not have read a request because of them."""
         connection = exchange.connection
         if connection is None or connection.response.seen == 0:
-            exchange.owner.wait(exchange)
+            exchange.owner.server.wait(exchange)
 
     async def _connect(self, exchange: Exchange) -> None:
         """Makes a connection and sends a request on it."""

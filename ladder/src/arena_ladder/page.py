@@ -26,7 +26,7 @@ from aiohttp import web
 from arena_ladder.about import about_of
 from arena_ladder.days import with_days
 from arena_ladder.feed import Feed, Results
-from arena_ladder.heap import use_one_heap
+from arena_ladder.heap import keep_heap_small, use_one_heap
 from arena_ladder.history import bots_of
 from arena_ladder.page_calls import KINDS, Calls, faults_as_answers, files_of_page, rows_of
 from arena_ladder.page_link import Address
@@ -125,9 +125,11 @@ async def page(calls: Calls, address: Address) -> AsyncIterator[Address]:
     door = Doorkeeper(runner.server, silent)
     loop = asyncio.get_running_loop()
     server = await loop.create_server(door, address.host, address.port, backlog=MOST_CONNECTIONS)
+    trimming = asyncio.create_task(keep_heap_small())
     try:
         yield Address(address.host, server.sockets[0].getsockname()[1])
     finally:
+        trimming.cancel()
         await feed.close()
         server.close()
         await runner.server.shutdown(CLOSING_SECONDS)

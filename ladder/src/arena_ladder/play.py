@@ -19,6 +19,7 @@ from arena_ladder.config import ENDLESS, Bot, Config
 from arena_ladder.endless import Endless
 from arena_ladder.game import Game, GameFault, RunContext
 from arena_ladder.game_files import command_file, running_games
+from arena_ladder.heap import keep_heap_small
 from arena_ladder.keeper import HostKeeper
 from arena_ladder.kept_answers import KeptAnswers
 from arena_ladder.pairing import Fixture, Part, fixtures_of
@@ -79,12 +80,14 @@ async def play(job: Job, store: Store, watches: Sequence[Watch]) -> None:
         watch.begin(count, planned(config, fixtures))
         context = await run_context(job, client, watch)
         asking = asyncio.create_task(ask_looks_again(context))
+        trimming = asyncio.create_task(keep_heap_small())
         try:
             run = Run(context, store, keeper, kept, job.ends_at)
             run.pack()
             await run.play([fixture for fixture in fixtures if fixture.name not in done])
         finally:
             asking.cancel()
+            trimming.cancel()
 
 
 def planned(config: Config, fixtures: Sequence[Fixture]) -> int:

@@ -16,14 +16,14 @@ from arena_ladder.bots import Answer
 from arena_ladder.misses import Miss
 from arena_ladder.outcome import Outcome
 from arena_ladder.pairing import Fixture
-from arena_ladder.quantiles import quantile
 from arena_ladder.texts import fit_text
+from arena_ladder.times import Times
 from arena_ladder.watch import Watch
 
 REFRESHES_A_SECOND = 4
 ENOUGH_MOVES = 30  # for a median
 MOST_OWN = 10_000  # tenths of a millisecond; longer times count as so long
-PARTS = 32  # a time is rounded down by less than one part in this number
+MOST_MS = 60_000  # of an answer: the longest timeout
 GROWTH, GROWTH_MS = 1.5, 10  # a median that grows by more depends on the number of games
 
 
@@ -35,7 +35,7 @@ class Counts(Watch):
         self.running: set[str] = set()
         self.done = self.fixtures = self.played = self.turns = self.moves = 0
         self.missed: Counter[Miss] = Counter()
-        self.own: Counter[int] = Counter()  # turns by own time, in tenths of a millisecond
+        self.own = Times(MOST_OWN)  # of turns, in tenths of a millisecond
         self.lagged = 0  # turns in which the ladder itself was late
         self.strain = Strain()
 
@@ -54,7 +54,7 @@ class Counts(Watch):
         self.lagged += any(it.is_lagged for it in answers.values())
         self.strain.count(answers)
         if own_seconds is not None:
-            self.own[min(math.ceil(own_seconds * 10_000), MOST_OWN)] += 1
+            self.own.add(max(0, math.ceil(own_seconds * 10_000)))
 
     def end(self, outcome: Outcome) -> None:
         self.running.discard(outcome.name)
@@ -93,7 +93,7 @@ class Counts(Watch):
 
     def own_times(self) -> tuple[float, float] | None:
         """The median and the 99th percentile of the ladder's own time between turns, in ms."""
-        median, most = quantile(self.own, 0.5), quantile(self.own, 0.99)
+        median, most = self.own.quantile(0.5), self.own.quantile(0.99)
         return None if median is None or most is None else (median / 10, most / 10)
 
 
@@ -102,7 +102,7 @@ class Strain:
 
     def __init__(self) -> None:
         self.playing: Counter[str] = Counter()  # games by bot
-        self.latencies: dict[str, dict[int, Counter[int]]] = {}  # rough, by bot and its games
+        self.latencies: dict[str, dict[int, Times]] = {}  # by bot and its games
 
     def end(self, bots: Iterable[str]) -> None:
         """Takes the end of a game between some bots."""
@@ -114,26 +114,23 @@ class Strain:
     def count(self, answers: Mapping[str, Answer]) -> None:
         for bot, answer in answers.items():
             by_games = self.latencies.setdefault(bot, {})
-            by_games.setdefault(self.playing[bot], Counter())[rough(answer.latency)] += 1
+            games = self.playing[bot]
+            if games not in by_games:
+                by_games[games] = Times(MOST_MS)
+            by_games[games].add(answer.latency)
 
     def warnings(self) -> list[str]:
         """A line for each bot whose median with most games is far above that with fewest."""
         lines = []
         for bot, by_games in sorted(self.latencies.items()):
             enough = sorted(it for it in by_games if by_games[it].total() >= ENOUGH_MOVES)
-            medians = [quantile(by_games[it], 0.5) or 0 for it in enough]
+            medians = [by_games[it].quantile(0.5) or 0 for it in enough]
             if medians and medians[-1] > medians[0] * GROWTH + GROWTH_MS:
                 lines.append(
                     f"{bot} answers in {medians[0]} ms with {enough[0]} of its games at once, in "
                     f"{medians[-1]} ms with {enough[-1]}: a smaller games_a_bot may serve it better"
                 )
         return lines
-
-
-def rough(milliseconds: int) -> int:
-    """A time of which few different ones are kept: those below twice PARTS are exact."""
-    shift = max(0, milliseconds.bit_length() - PARTS.bit_length())
-    return milliseconds >> shift << shift
 
 
 class ProgressBar(Watch):

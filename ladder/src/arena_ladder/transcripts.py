@@ -13,7 +13,7 @@ from arena_client import BLOCKS_OF_GAME
 from arena_ladder.packs import commands_of
 
 MOST_BYTES = 32 * 1024 * 1024  # of a transcript
-MOST_KEPT = 16 * 1024 * 1024  # bytes of all that are kept, unless it is one alone
+MOST_KEPT = 4 * 1024 * 1024  # bytes of all that are kept, unless it is one alone
 MOST_WAITING = 8  # requests; they are served one after the other
 SERVE_SECONDS = 30.0
 PROCESSOR_SECONDS = 20  # of the program, which also ends it if this process is killed
