@@ -87,7 +87,10 @@ fn quota_of_two_records(rt: HostRuntime) -> Result<(), Fail> {
     let first = solo_after(alloc, 5, 0)?;
     is_shown(alloc, &answered(alloc, &mut planes, &first, (32, 1))?, 1)?;
     let next = solo_after(alloc, 5, 1)?;
-    is_refused(&answered(alloc, &mut planes, &next, (64, 2))?, Refusal::Quota)?;
+    is_refused(
+        &answered(alloc, &mut planes, &next, (64, 2))?,
+        Refusal::Quota,
+    )?;
     is_shown(alloc, &answered(alloc, &mut planes, &next, (32, 1))?, 2)
 }
 
@@ -108,5 +111,8 @@ fn move_of_a_game_that_is_over(rt: HostRuntime) -> Result<(), Fail> {
     let alloc = rt.alloc();
     let mut planes = PlaneCache::new(alloc);
     let over = solo_after(alloc, 3, 2)?;
-    is_refused(&answered(alloc, &mut planes, &over, (32, 1))?, Refusal::Over)
+    is_refused(
+        &answered(alloc, &mut planes, &over, (32, 1))?,
+        Refusal::Over,
+    )
 }
