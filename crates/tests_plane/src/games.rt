@@ -46,7 +46,7 @@ struct Played {
 }
 
 /// A game whose last board is this one.
-fn played(alloc: Global, board: Board) -> Result<Played, AllocError>
+fn begun(alloc: Global, board: Board) -> Result<Played, AllocError>
     requires { IsLegal board }
 {
     let last = Record::of(alloc, &board)?;
@@ -101,7 +101,7 @@ fn play(alloc: Global, game: Played, orders: &Move) -> Result<(Played, bool), Fa
 
 /// Plays a drawn game of at most that many turns.
 fn play_game(alloc: Global, draws: &mut Draws, most: u32, counts: &mut Counts) -> Result<(), Fail> {
-    let mut game = played(alloc, start(alloc, &setup(alloc, draws)?)?)?;
+    let mut game = begun(alloc, start(alloc, &setup(alloc, draws)?)?)?;
     for _ in 0..most {
         if over(&game.board) || game.board.turn >= LAST_TURN {
             return Ok(());
@@ -143,7 +143,7 @@ fn laid_boards_over_a_plane_are_as_decoded(rt: HostRuntime) -> Result<(), Fail> 
         let board = laid(alloc, &mut draws)?;
         holds("a legal board", is_legal(&board))?;
         let orders = orders(alloc, &mut draws, &board)?;
-        let (_, stepped) = play(alloc, played(alloc, board)?, &orders)?;
+        let (_, stepped) = play(alloc, begun(alloc, board)?, &orders)?;
         counts.turns = counts.turns.wrapping_add(1);
         counts.stepped = counts.stepped.wrapping_add(u32::from(stepped));
     }
