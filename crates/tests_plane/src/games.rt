@@ -14,6 +14,7 @@ use bs_plane::Stepper;
 use bs_rules::turn;
 use bs_samples::{holds, same};
 use std::alloc::{AllocError, Global};
+use std::marker::Model;
 use std::test::Fail;
 
 /// The number of turns, and of those over the plane.
@@ -40,9 +41,14 @@ struct Played {
     board: Board,
     last: Record,
     stepper: Stepper,
-    ghost legal: { IsLegal board },
-    ghost is: { last ≡ record_of board },
-    ghost follows: { Follows stepper last },
+}
+
+impl Model for Played {
+    ghost Value = { Unit {0} };
+
+    ghost view = { λ _. tt };
+
+    ghost invariant = { λ p. IsLegal p.board × (p.last ≡ record_of p.board) × Follows p.stepper p.last };
 }
 
 /// A game whose last board is this one.
