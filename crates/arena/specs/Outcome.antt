@@ -5,26 +5,27 @@ use Rattle.clap.specs.declared.error.Error.{Error}
 use Rattle.clap.specs.declared.error.ErrorKind.{ErrorKind}
 use Rattle.clap.specs.declared.error.ErrorKind.TheVariants as clap
 use Rattle.bs_program.specs.Outcome.{Answer, Concludes, Does, Named, Reports}
-use Rattle.bs_program.specs.Streams.{has_bytes, is_flushed}
+use Rattle.bs_program.specs.Streams.{has_bytes, has_failed, is_flushed}
 use Rattle.bs_program.specs.declared.reason.Reason.TheVariants.{OutOfMemory, FlushFailed}
 use Rattle.bs_program.specs.declared.stream.Output.{Output}
 use Rattle.arena.specs.Words.{asked_of, mistakes_in}
 
 -- A command line that clap does not accept, by the kind of its error: memory ran out; or it asks
 -- for clap's text, and some bytes were written to the output and flushed, and none to the errors,
--- or the text could not be written; or it is refused. The texts are clap's.
+-- or a call of the output's writer failed, or memory ran out; or it is refused. The texts are
+-- clap's.
 pub record Explains {W E : Type 0} (contents : E → Option (List ℕ)) (kind : ErrorKind) (status : ℕ) (output after : Output W) (old new : Output E) : Type 0 where
   pub memory : kind ≡ clap.OutOfMemory → Reports contents OutOfMemory status old new × (after ≡ output)
   pub shown : (kind ≡ clap.DisplayHelp) ⊎ (kind ≡ clap.DisplayVersion)
-      → ((status ≡ 0) × (is_flushed after ≡ true) × (has_bytes after ≡ true) × (new ≡ old)) ⊎ Reports contents FlushFailed status old new
+      → ((status ≡ 0) × (is_flushed after ≡ true) × (has_bytes after ≡ true) × (new ≡ old)) ⊎ ((Reports contents FlushFailed status old new × (has_failed after ≡ true)) ⊎ Reports contents OutOfMemory status old new)
   pub refused : kind ≢ clap.OutOfMemory → kind ≢ clap.DisplayHelp → kind ≢ clap.DisplayVersion → (status ≡ 2) × (after ≡ output)
 
 -- The words, the first of which is the program's own name, were accepted, and their request is
--- done.
-pub record IsDone {W E : Type 0} (contents : W → Option (List ℕ)) (told : E → Option (List ℕ)) (left : Option (List ℕ)) (named : Named) (words : List (List ℕ)) (status : ℕ) (output after : Output W) (old new : Output E) : Type 0 where
+-- done; `failed` says that a call of the reader failed.
+pub record IsDone {W E : Type 0} (contents : W → Option (List ℕ)) (told : E → Option (List ℕ)) (failed : Type 0) (left : Option (List ℕ)) (named : Named) (words : List (List ℕ)) (status : ℕ) (output after : Output W) (old new : Output E) : Type 0 where
   pub answer : Answer
   pub taken : 2 ≤ length words → mistakes_in words ≡ []
-  pub done : Does contents left named (asked_of words) output after answer
+  pub done : Does contents failed left named (asked_of words) output after answer
   pub concluded : Concludes told answer status old new
 
 -- The words were not accepted.

@@ -4,11 +4,12 @@
 
 ghost use Rattle.std.specs.Prelude.{◌≡◌, ◌⊎◌, map, string_bytes, OnErr, IfOk};
 ghost use Rattle.arena.specs.Outcome.{IsDone, IsRefused};
+ghost use Rattle.bs_program.specs.Streams.{left_in, HasReadFailed};
 
 mod command_line;
 mod program;
 
-use bs_program::{Output, Reason, Sources, reported};
+use bs_program::{Input, Output, Reason, Sources, reported};
 use program::{arena_run, unread_words};
 use std::alloc::{AllocError, Global};
 use std::io::{Read, Write};
@@ -34,11 +35,11 @@ fn status_on<H: Sources + Threads + Wait + Sync, R: Read, W: Write, E: Write>(
     rt: &H,
     alloc: Global,
     words: &[String],
-    input: &mut R,
+    input: &mut Input<R>,
     output: &mut Output<W>,
     errors: &mut Output<E>,
 ) -> Result<u8, AllocError>
-    ensures status { IfOk result (λ status. IsDone W.contents E.contents (R.remaining input.old) (H.named rt.now) (map (λ word. string_bytes word) words.now) status output.old output.new errors.old errors.new
+    ensures status { IfOk result (λ status. IsDone W.contents E.contents (HasReadFailed input.new) (left_in R.remaining input.old) (H.named rt.now) (map (λ word. string_bytes word) words.now) status output.old output.new errors.old errors.new
         ⊎ IsRefused E.contents (map (λ word. string_bytes word) words.now) status output.old output.new errors.old errors.new) }
     ensures output { OnErr result (output.new ≡ output.old) }
     ensures errors { OnErr result (errors.new ≡ errors.old) }
@@ -53,7 +54,7 @@ fn main(rt: HostRuntime) -> ExitCode {
         Ok(words) => words,
         Err(error) => return ExitCode::from(unread_words(&error, &mut errors)),
     };
-    let (mut input, mut output) = (rt.stdin(), Output::new(rt.stdout()));
+    let (mut input, mut output) = (Input::new(rt.stdin()), Output::new(rt.stdout()));
     let status = status_on(
         &rt,
         rt.alloc(),

@@ -3,12 +3,12 @@ ghost use Rattle.std.specs.Prelude.{◌≡◌, ◌⊎◌, true, map, IfOk, IfErr
 ghost use Rattle.arena.specs.Outcome.{IsDone, IsRefused, Explains};
 ghost use Rattle.bs_program.specs.Outcome.{Reports};
 ghost use Rattle.bs_program.specs.Reasons.{reason_of_words};
-ghost use Rattle.bs_program.specs.Streams.{has_bytes, is_flushed};
+ghost use Rattle.bs_program.specs.Streams.{has_bytes, has_failed, is_flushed, left_in, HasReadFailed};
 ghost use Rattle.std.specs.IoError.{error_kind};
 ghost use Rattle.clap.specs.Words.{kind_of};
 
 use crate::command_line::read_words;
-use bs_program::{Output, Reason, Sources, concluded, reported, run_request};
+use bs_program::{Input, Output, Reason, Sources, concluded, reported, run_request};
 use clap::error::ErrorKind;
 use std::alloc::Global;
 use std::io::{self, Read, Write};
@@ -43,7 +43,8 @@ fn explained<W: Write, E: Write>(
         ErrorKind::OutOfMemory => reported(Reason::OutOfMemory, errors),
         ErrorKind::DisplayHelp | ErrorKind::DisplayVersion => match show(error, output) {
             Ok(()) => 0,
-            Err(_) => reported(Reason::FlushFailed, errors),
+            Err(_) if output.has_failed() => reported(Reason::FlushFailed, errors),
+            Err(_) => reported(Reason::OutOfMemory, errors),
         },
         _ => {
             let _ = write!(errors, "{error}");
@@ -59,11 +60,11 @@ pub fn arena_run<H: Sources + Threads + Wait + Sync, R: Read, W: Write, E: Write
     rt: &H,
     alloc: Global,
     words: &[&str],
-    input: &mut R,
+    input: &mut Input<R>,
     output: &mut Output<W>,
     errors: &mut Output<E>,
 ) -> u8
-    ensures { IsDone W.contents E.contents (R.remaining input.old) (H.named rt.now) (map (λ word. word.now) words.now) result output.old output.new errors.old errors.new
+    ensures { IsDone W.contents E.contents (HasReadFailed input.new) (left_in R.remaining input.old) (H.named rt.now) (map (λ word. word.now) words.now) result output.old output.new errors.old errors.new
         ⊎ IsRefused E.contents (map (λ word. word.now) words.now) result output.old output.new errors.old errors.new }
 {
     match read_words(alloc, words) {

@@ -1,5 +1,6 @@
 pub mod ActsLaw
 pub mod ApartStays
+pub mod Causes
 pub mod CutFile
 pub mod CutLaw
 pub mod CutLines

@@ -51,6 +51,14 @@ IsFault refusal Memory = Unit {0}
 IsFault refusal Broken = refusal ≡ None
 IsFault refusal (Write written) = refusal ≡ None
 
+-- a fault of the writer has this cause; nothing is claimed of the others
+abbrev pub HasCause : Type 0 → Fault → Type 0
+HasCause failed TooLong = Unit {0}
+HasCause failed (OfPlan reason) = Unit {0}
+HasCause failed Memory = Unit {0}
+HasCause failed Broken = Unit {0}
+HasCause failed (Write written) = failed
+
 -- what the writer has after the fault: a proper prefix of the text, of the length that the fault
 -- gives; or nothing new
 abbrev pub Leaves : {W : Type 0} → (W → Option (List ℕ)) → List ℕ → W → W → Fault → Type 0

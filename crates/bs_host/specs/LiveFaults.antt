@@ -25,14 +25,22 @@ live_fault_of_plan plan.Memory = live.Memory
 abbrev pub live_refusal_of : ℕ → List ℕ → Option Fault
 live_refusal_of blocks file = refusal_of_plan blocks (plan_of file)
 
--- like `IsLiveRefusal`; a writer fails only if the plan is not refused, and nothing is claimed of
--- the reader's faults
+-- like `IsLiveRefusal`; a writer fails only if the plan is not refused, and a reader at any time
 abbrev pub IsLiveFault : Option Fault → LiveFault → Type 0
 IsLiveFault refusal live.Device = Unit {0}
 IsLiveFault refusal (live.Plan reason) = refusal ≡ Some (OfPlan reason)
 IsLiveFault refusal live.Memory = Unit {0}
 IsLiveFault refusal (live.Write written) = refusal ≡ None
 IsLiveFault refusal live.Flush = refusal ≡ None
+
+-- a fault of the reader has the first cause, and one of the writer the second; nothing is claimed
+-- of the others
+abbrev pub HasLiveCause : Type 0 → Type 0 → LiveFault → Type 0
+HasLiveCause read written live.Device = read
+HasLiveCause read written (live.Plan reason) = Unit {0}
+HasLiveCause read written live.Memory = Unit {0}
+HasLiveCause read written (live.Write count) = written
+HasLiveCause read written live.Flush = written
 
 -- What the writer has after a fault.
 -- the answers to the first `count` lines after the plan

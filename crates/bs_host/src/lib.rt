@@ -2,6 +2,7 @@
 //! the transcript. Also cuts a file to one stay of a game: its own lines as a file.
 #![tactic(auto)]
 
+mod calls;
 mod cut_fault;
 mod cutting;
 mod fault;
@@ -20,11 +21,12 @@ mod render;
 mod route;
 mod serving;
 
+pub use calls::ReadCalls;
 pub use cut_fault::Cut;
 pub use cutting::{cut, section_law};
 pub use fault::{Fault, PlanRefusal};
 pub use limits::{BLOCK_BYTES, MOST_FILE_BYTES};
-pub use live::{live_law, serve_live};
+pub use live::{live_law, serve_live, serve_live_by};
 pub use live_fault::LiveFault;
-pub use read::{ReadFault, read_input};
-pub use serving::serve;
+pub use read::{ReadFault, read_input, read_input_by};
+pub use serving::{serve, serve_by};

@@ -10,14 +10,15 @@ ghost use Rattle.bs_json.specs.declared.limits.TheConstants.{MAX_LINE};
 ghost use Rattle.bs_host.specs.File.{pieces_of};
 ghost use Rattle.bs_host.specs.Live.{LiveLaw, PrefixLaw, TranscriptLaw, live_lines_of, live_of};
 ghost use Rattle.bs_host.specs.inner.Live.{HasAnswered, IsSameText, IsServing};
-ghost use Rattle.bs_host.specs.LiveFaults.{IsLiveFault, LeavesLive, live_refusal_of};
+ghost use Rattle.bs_host.specs.LiveFaults.{HasLiveCause, IsLiveFault, LeavesLive, live_refusal_of};
 ghost use Rattle.bs_host.specs.inner.LiveFaults.{IsReadFault, LeavesLines, LeavesText};
 
+use crate::calls::ReadCalls;
 use crate::lines::{first_feed, split_first, split_some};
 use crate::live_fault::LiveFault;
 use crate::live_host::LiveHost;
 use bs_json::{MAX_LINE, TextBuffer};
-use bs_transcript::write_all_of;
+use bs_transcript::{Unrecorded, WriteCalls, write_all_by};
 use std::alloc::{AllocError, Global};
 use std::io::{Read, Write};
 
@@ -29,18 +30,23 @@ const BLOCK: usize = 8_192;
 const SOME_LINES: usize = 1_024;
 
 /// Writes the text and flushes the writer. Counts in `written` the bytes that it took.
-fn write_out<W: Write>(text: &[u8], written: &mut usize, output: &mut W) -> Result<(), LiveFault>
+fn write_out<W: Write, C: WriteCalls<W>>(
+    text: &[u8],
+    written: &mut usize,
+    output: &mut W,
+) -> Result<(), LiveFault>
     ensures text { OnOk result (Appends (W.contents output.old) (W.contents output.new) text.now) }
     ensures count { OnOk result (written.new ≡ written.old + length text.now) }
     ensures left { IfErr result (LeavesText text.now written.old (W.contents output.old) (W.contents output.new)) }
+    ensures failed { IfErr result (HasLiveCause ⊥ (C.has_failed output.new)) }
 {
     let after = written.checked_add(text.len()).ok_or(AllocError)?;
-    if let Err(fault) = write_all_of(text, output) {
+    if let Err(fault) = write_all_by::<W, C>(text, output) {
         return Err(LiveFault::Write(*written + fault.written));
     }
-    if output.flush().is_err() {
+    let Ok(()) = C::flush(output) else {
         return Err(LiveFault::Flush);
-    }
+    };
     *written = after;
     Ok(())
 }
@@ -58,7 +64,7 @@ struct Flow {
 
 /// Answers the first complete lines of the pending bytes, and writes their answers. The rest stays
 /// pending. Returns false if no line is complete.
-fn answer_some<W: Write>(
+fn answer_some<W: Write, C: WriteCalls<W>>(
     alloc: Global,
     host: &mut LiveHost,
     flow: &mut Flow,
@@ -72,6 +78,7 @@ fn answer_some<W: Write>(
     ensures left { IfErr result (λ fault. (blocks : ℕ) (version : Version) (plan : List GameRow) (after : List ℕ) (first : Option (List ℕ))
         → IsServing blocks version plan after flow.old.pending.items first (W.contents output.old) flow.old.written host.old
         → (more : List ℕ) → LeavesLines blocks version plan (pieces_of (after ++ more)) first (W.contents output.new) fault) }
+    ensures failed { IfErr result (HasLiveCause ⊥ (C.has_failed output.new)) }
 {
     let Some((front, back)) = split_some(&flow.pending, SOME_LINES) else {
         return Ok(false);
@@ -80,14 +87,14 @@ fn answer_some<W: Write>(
     rest.extend_from_slice(back)?;
     flow.text.clear();
     host.answer_all(alloc, front, &mut flow.text)?;
-    write_out(flow.text.as_slice(), &mut flow.written, output)?;
+    write_out::<W, C>(flow.text.as_slice(), &mut flow.written, output)?;
     flow.pending = rest;
     Ok(true)
 }
 
 /// Answers the complete lines of the pending bytes, and writes their answers. The rest stays
 /// pending.
-fn answer_ready<W: Write>(
+fn answer_ready<W: Write, C: WriteCalls<W>>(
     alloc: Global,
     host: &mut LiveHost,
     flow: &mut Flow,
@@ -100,10 +107,11 @@ fn answer_ready<W: Write>(
     ensures left { IfErr result (λ fault. (blocks : ℕ) (version : Version) (plan : List GameRow) (after : List ℕ) (first : Option (List ℕ))
         → IsServing blocks version plan after flow.old.pending.items first (W.contents output.old) flow.old.written host.old
         → (more : List ℕ) → LeavesLines blocks version plan (pieces_of (after ++ more)) first (W.contents output.new) fault) }
+    ensures failed { IfErr result (HasLiveCause ⊥ (C.has_failed output.new)) }
 {
     let mut more = true;
     'lines: while more {
-        more = answer_some(alloc, host, flow, output)?;
+        more = answer_some::<W, C>(alloc, host, flow, output)?;
     }
     Ok(())
 }
@@ -131,7 +139,10 @@ fn hold_line(pending: &mut Vec<u8>)
 /// Waits until a byte can be read, reads once, and appends the bytes. Returns false at the end of
 /// the input. Before the read all complete lines are answered, and of one that is not complete at
 /// most 65,537 bytes are held.
-fn read_more<R: Read>(input: &mut R, pending: &mut Vec<u8>) -> Result<bool, LiveFault>
+fn read_more<R: Read, C: ReadCalls<R>>(
+    input: &mut R,
+    pending: &mut Vec<u8>,
+) -> Result<bool, LiveFault>
     requires answered { position (λ byte. byte == LINE_FEED) pending.old.items ≡ None }
     requires held { length pending.old.items ≤ MAX_LINE + 1 }
     ensures bytes { OnOk result
@@ -139,9 +150,10 @@ fn read_more<R: Read>(input: &mut R, pending: &mut Vec<u8>) -> Result<bool, Live
     ensures more { IfOk result (λ more. more ≡ true → length pending.old.items < length pending.new.items) }
     ensures end { IfOk result (λ more. more ≡ false → IsAtEnd (R.remaining input.new)) }
     ensures fault { IfErr result IsReadFault }
+    ensures device { IfErr result (HasLiveCause (C.has_failed input.new) ⊥) }
 {
     let mut block = [0u8; BLOCK];
-    let Ok(count) = input.read(&mut block) else {
+    let Ok(count) = C::read(input, &mut block) else {
         return Err(LiveFault::Device);
     };
     pending.extend_from_slice(&block[..count])?;
@@ -151,14 +163,15 @@ fn read_more<R: Read>(input: &mut R, pending: &mut Vec<u8>) -> Result<bool, Live
 /// Reads until the first line is complete or longer than 65,536 bytes, or until the end of the
 /// input.
 #[tactic(auto, using(crate::proofs::LiveBytes::consumes_none, crate::proofs::LiveBytes::reads_more))]
-fn read_first<R: Read>(alloc: Global, input: &mut R) -> Result<Vec<u8>, LiveFault>
+fn read_first<R: Read, C: ReadCalls<R>>(alloc: Global, input: &mut R) -> Result<Vec<u8>, LiveFault>
     ensures bytes { IfOk result (λ bytes. Consumes (R.remaining input.old) (R.remaining input.new) bytes.items) }
     ensures end { IfOk result (λ bytes. position (λ byte. byte == LINE_FEED) bytes.items ≡ None → length bytes.items ≤ MAX_LINE → IsAtEnd (R.remaining input.new)) }
     ensures fault { IfErr result IsReadFault }
+    ensures device { IfErr result (HasLiveCause (C.has_failed input.new) ⊥) }
 {
     let mut bytes = Vec::new(alloc);
     'reads: while bytes.len() <= MAX_LINE && lacks_feed(&bytes) {
-        if !read_more(input, &mut bytes)? {
+        if !read_more::<R, C>(input, &mut bytes)? {
             return Ok(bytes);
         }
     }
@@ -167,7 +180,7 @@ fn read_first<R: Read>(alloc: Global, input: &mut R) -> Result<Vec<u8>, LiveFaul
 
 /// Answers the pending bytes at the end of the input; writes the answers, and the final lines of
 /// the open stays.
-fn end_live<W: Write>(
+fn end_live<W: Write, C: WriteCalls<W>>(
     alloc: Global,
     host: &mut LiveHost,
     flow: &mut Flow,
@@ -179,16 +192,17 @@ fn end_live<W: Write>(
     ensures left { IfErr result (λ fault. (blocks : ℕ) (version : Version) (plan : List GameRow) (after : List ℕ) (first : Option (List ℕ))
         → IsServing blocks version plan after flow.old.pending.items first (W.contents output.old) flow.old.written host.old
         → LeavesLines blocks version plan (pieces_of after) first (W.contents output.new) fault) }
+    ensures failed { IfErr result (HasLiveCause ⊥ (C.has_failed output.new)) }
 {
     flow.text.clear();
     host.answer_all(alloc, &flow.pending, &mut flow.text)?;
     host.close(alloc, &mut flow.text)?;
-    write_out(flow.text.as_slice(), &mut flow.written, output)?;
+    write_out::<W, C>(flow.text.as_slice(), &mut flow.written, output)?;
     Ok(())
 }
 
 /// Answers the lines after the plan as they are read. The bytes `rest` were read already.
-fn serve_lines<R: Read, W: Write>(
+fn serve_lines<R: Read, W: Write, C: ReadCalls<R> + WriteCalls<W>>(
     alloc: Global,
     host: &mut LiveHost,
     rest: &[u8],
@@ -199,6 +213,7 @@ fn serve_lines<R: Read, W: Write>(
         → OnOk result (IfSome (R.remaining input.old) (λ left. Appends (W.contents output.old) (W.contents output.new) (live_lines_of blocks version plan (pieces_of (rest.now ++ left))))) }
     ensures left { IfErr result (λ fault. (blocks : ℕ) (version : Version) (plan : List GameRow) → HasAnswered blocks version plan [] host.old
         → IfSome (R.remaining input.old) (λ left. LeavesLines blocks version plan (pieces_of (rest.now ++ left)) (W.contents output.old) (W.contents output.new) fault)) }
+    ensures failed { IfErr result (HasLiveCause (C.ReadCalls.has_failed input.new) (C.WriteCalls.has_failed output.new)) }
 {
     let mut flow = Flow {
         pending: Vec::from_slice(alloc, rest)?,
@@ -206,10 +221,10 @@ fn serve_lines<R: Read, W: Write>(
         written: 0,
     };
     for _ in 0..u64::MAX {
-        answer_ready(alloc, host, &mut flow, output)?;
+        answer_ready::<W, C>(alloc, host, &mut flow, output)?;
         hold_line(&mut flow.pending);
-        if !read_more(input, &mut flow.pending)? {
-            end_live(alloc, host, &mut flow, output)?;
+        if !read_more::<R, C>(input, &mut flow.pending)? {
+            end_live::<W, C>(alloc, host, &mut flow, output)?;
             return Ok(());
         }
     }
@@ -217,17 +232,52 @@ fn serve_lines<R: Read, W: Write>(
 }
 
 /// Writes the final lines of the stays of a file without lines after its plan.
-fn end_plan<W: Write>(alloc: Global, host: &LiveHost, output: &mut W) -> Result<(), LiveFault>
+fn end_plan<W: Write, C: WriteCalls<W>>(
+    alloc: Global,
+    host: &LiveHost,
+    output: &mut W,
+) -> Result<(), LiveFault>
     ensures written { (blocks : ℕ) (version : Version) (plan : List GameRow) → HasAnswered blocks version plan [] host.now
         → OnOk result (Appends (W.contents output.old) (W.contents output.new) (live_lines_of blocks version plan [])) }
     ensures left { IfErr result (λ fault. (blocks : ℕ) (version : Version) (plan : List GameRow) → HasAnswered blocks version plan [] host.now
         → LeavesLines blocks version plan [] (W.contents output.old) (W.contents output.new) fault) }
+    ensures failed { IfErr result (HasLiveCause ⊥ (C.has_failed output.new)) }
 {
     let mut text = TextBuffer::new(alloc);
     host.close(alloc, &mut text)?;
     let mut written = 0;
-    write_out(text.as_slice(), &mut written, output)?;
+    write_out::<W, C>(text.as_slice(), &mut written, output)?;
     Ok(())
+}
+
+/// Like `serve_live`, by the calls `C`: a fault of the reader or of the writer is a call that
+/// failed.
+pub fn serve_live_by<R: Read, W: Write, C: ReadCalls<R> + WriteCalls<W>>(
+    alloc: Global,
+    input: &mut R,
+    blocks: usize,
+    output: &mut W,
+) -> Result<(), LiveFault>
+    ensures served { OnOk result (IfSome (R.remaining input.old) (λ file. live_refusal_of blocks file ≡ None)) }
+    ensures written { OnOk result (IfSome (R.remaining input.old) (λ file. Appends (W.contents output.old) (W.contents output.new) (live_of blocks file))) }
+    ensures fault { IfErr result (λ fault. IfSome (R.remaining input.old) (λ file. IsLiveFault (live_refusal_of blocks file) fault)) }
+    ensures left { IfErr result (λ fault. IfSome (R.remaining input.old) (λ file. LeavesLive blocks file (W.contents output.old) (W.contents output.new) fault)) }
+    ensures refused { IfSome (R.remaining input.old) (λ file. live_refusal_of blocks file ≢ None → output.new ≡ output.old) }
+    ensures failed { IfErr result (HasLiveCause (C.ReadCalls.has_failed input.new) (C.WriteCalls.has_failed output.new)) }
+{
+    let bytes = read_first::<R, C>(alloc, input)?;
+    match split_first(&bytes) {
+        Some((first, rest)) => {
+            let mut host = LiveHost::open(alloc, first, blocks)?;
+            serve_lines::<R, W, C>(alloc, &mut host, rest, input, output)?;
+            Ok(())
+        }
+        None => {
+            let host = LiveHost::open(alloc, &bytes, blocks)?;
+            end_plan::<W, C>(alloc, &host, output)?;
+            Ok(())
+        }
+    }
 }
 
 /// Serves a command file with `blocks` blocks of memory while it is read. After each read it
@@ -250,19 +300,7 @@ pub fn serve_live<R: Read, W: Write>(
     ensures left { IfErr result (λ fault. IfSome (R.remaining input.old) (λ file. LeavesLive blocks file (W.contents output.old) (W.contents output.new) fault)) }
     ensures refused { IfSome (R.remaining input.old) (λ file. live_refusal_of blocks file ≢ None → output.new ≡ output.old) }
 {
-    let bytes = read_first(alloc, input)?;
-    match split_first(&bytes) {
-        Some((first, rest)) => {
-            let mut host = LiveHost::open(alloc, first, blocks)?;
-            serve_lines(alloc, &mut host, rest, input, output)?;
-            Ok(())
-        }
-        None => {
-            let host = LiveHost::open(alloc, &bytes, blocks)?;
-            end_plan(alloc, &host, output)?;
-            Ok(())
-        }
-    }
+    serve_live_by::<R, W, Unrecorded>(alloc, input, blocks, output)
 }
 
 /// States for every file, number of blocks and stay: the lines that a live host writes for a stay

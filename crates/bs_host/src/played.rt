@@ -1,14 +1,14 @@
 //! A core at the end of its run, and what is left of the file.
 ghost use Rattle.std.specs.Prelude.{◌≡◌, IfErr, IfOk, OnOk};
 ghost use Rattle.std.specs.Io.KnownBytes.{Appends};
-ghost use Rattle.bs_transcript.specs.Written.{Leaves};
+ghost use Rattle.bs_transcript.specs.Written.{HasCause, Leaves};
 ghost use Rattle.bs_host.specs.inner.Transcript.{core_text_of};
 
 use crate::limits::BLOCK_BYTES;
 use crate::render::{PlayedFile, write_core};
 use bs_json::Stray;
 use bs_sched::Core;
-use bs_transcript::TranscriptFault;
+use bs_transcript::{TranscriptFault, WriteCalls};
 use bs_workers::Act;
 use std::alloc::Global;
 use std::io::Write;
@@ -26,7 +26,7 @@ pub(crate) struct Played {
 impl Played {
     /// Writes the transcript, and returns the core. If there may be several threads, one of them
     /// frees the acts meanwhile.
-    pub(crate) fn write<R: Threads + Wait + Sync, W: Write>(
+    pub(crate) fn write<R: Threads + Wait + Sync, W: Write, C: WriteCalls<W>>(
         self,
         rt: &R,
         alloc: Global,
@@ -36,6 +36,7 @@ impl Played {
         ensures core { IfOk result (λ core. core ≡ self.core) }
         ensures written { OnOk result (Appends (W.contents output.old) (W.contents output.new) (core_text_of self.core self.strays.items)) }
         ensures left { IfErr result (Leaves W.contents (core_text_of self.core self.strays.items) output.old output.new) }
+        ensures failed { IfErr result (HasCause (C.has_failed output.new)) }
     {
         let Played { core, acts, strays } = self;
         let file = PlayedFile {
@@ -48,12 +49,13 @@ impl Played {
             move |scope| -> (Result<(), TranscriptFault>, &mut W)
                 ensures written { OnOk result.0 (Appends (W.contents output.entry.now) (W.contents result.1.now) (core_text_of file.entry.core.now file.entry.strays.now)) }
                 ensures left { IfErr result.0 (Leaves W.contents (core_text_of file.entry.core.now file.entry.strays.now) output.entry.now result.1.now) }
+                ensures failed { IfErr result.0 (HasCause (C.has_failed result.1.now)) }
                 ensures same { result.1.ghost_name ≡ output.entry.ghost_name }
             {
                 if threads > 1 {
                     let _started = scope.spawn(move || drop(acts));
                 }
-                let written = write_core(rt, alloc, file, threads, output);
+                let written = write_core::<R, W, C>(rt, alloc, file, threads, output);
                 (written, output)
             },
         );

@@ -2,7 +2,9 @@
 ghost use Rattle.std.specs.Prelude.{◌≡◌, ◌<◌, ◌≤◌, length, IfOk, IfErr, OnOk, IfSome, IsErrOf};
 ghost use Rattle.std.specs.Io.KnownBytes.{Consumes, IsAtEnd};
 
+use crate::calls::ReadCalls;
 use crate::limits::MOST_FILE_BYTES;
+use bs_transcript::Unrecorded;
 use std::alloc::{AllocError, Global};
 use std::io::Read;
 use thiserror::Error;
@@ -25,20 +27,23 @@ pub enum ReadFault {
     Memory,
 }
 
-/// Reads all bytes that the reader has left. `TooLong` if they are more than 16,777,216. After an
-/// error the number of bytes taken from the reader is unspecified.
-pub fn read_input<R: Read>(alloc: Global, input: &mut R) -> Result<Vec<u8>, ReadFault>
+/// Like `read_input`, by the calls `C`: `Device` is a call that failed.
+pub fn read_input_by<R: Read, C: ReadCalls<R>>(
+    alloc: Global,
+    input: &mut R,
+) -> Result<Vec<u8>, ReadFault>
     ensures all { IfOk result (λ bytes. IfSome (R.remaining input.old) (λ left. bytes.items ≡ left)) }
     ensures end { OnOk result (IsAtEnd (R.remaining input.new)) }
     ensures short { IfOk result (λ bytes. length bytes.items ≤ MOST_FILE_BYTES) }
     ensures long { IsErrOf result ReadFault.TooLong → IfSome (R.remaining input.old) (λ left. MOST_FILE_BYTES < length left) }
+    ensures device { IsErrOf result ReadFault.Device → C.has_failed input.new }
 {
     let Ok(mut bytes) = Vec::with_capacity(alloc, ROOM) else {
         return Err(ReadFault::Memory);
     };
     let mut block = [0u8; BLOCK];
     'reads: while bytes.len() <= MOST_FILE_BYTES {
-        let Ok(count) = input.read(&mut block) else {
+        let Ok(count) = C::read(input, &mut block) else {
             return Err(ReadFault::Device);
         };
         if count == 0 {
@@ -49,4 +54,15 @@ pub fn read_input<R: Read>(alloc: Global, input: &mut R) -> Result<Vec<u8>, Read
         }
     }
     Err(ReadFault::TooLong)
+}
+
+/// Reads all bytes that the reader has left. `TooLong` if they are more than 16,777,216. After an
+/// error the number of bytes taken from the reader is unspecified.
+pub fn read_input<R: Read>(alloc: Global, input: &mut R) -> Result<Vec<u8>, ReadFault>
+    ensures all { IfOk result (λ bytes. IfSome (R.remaining input.old) (λ left. bytes.items ≡ left)) }
+    ensures end { OnOk result (IsAtEnd (R.remaining input.new)) }
+    ensures short { IfOk result (λ bytes. length bytes.items ≤ MOST_FILE_BYTES) }
+    ensures long { IsErrOf result ReadFault.TooLong → IfSome (R.remaining input.old) (λ left. MOST_FILE_BYTES < length left) }
+{
+    read_input_by::<R, Unrecorded>(alloc, input)
 }

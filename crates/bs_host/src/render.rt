@@ -4,13 +4,13 @@ ghost use Rattle.std.specs.Io.KnownBytes.{Appends};
 ghost use Rattle.std.specs.List.{flat_map};
 ghost use Rattle.bs_sched.specs.Machine.{lane_of};
 ghost use Rattle.bs_transcript.specs.Lines.{section_lines_of};
-ghost use Rattle.bs_transcript.specs.Written.{Leaves};
+ghost use Rattle.bs_transcript.specs.Written.{HasCause, Leaves};
 ghost use Rattle.bs_host.specs.inner.Transcript.{lane_lines_of, core_text_of};
 
 use crate::limits::BLOCK_BYTES;
 use bs_json::Stray;
 use bs_sched::Core;
-use bs_transcript::{Section, Transcript, TranscriptFault, write_transcript};
+use bs_transcript::{Section, Transcript, TranscriptFault, WriteCalls, write_transcript_by};
 use std::alloc::{AllocError, Global};
 use std::io::Write;
 use std::sync::Wait;
@@ -52,7 +52,7 @@ pub(crate) struct PlayedFile<'c> {
 }
 
 /// Writes the sections of all stays in the order of their rows, then the stray lines.
-pub(crate) fn write_core<R: Threads + Wait + Sync, W: Write>(
+pub(crate) fn write_core<R: Threads + Wait + Sync, W: Write, C: WriteCalls<W>>(
     rt: &R,
     alloc: Global,
     file: PlayedFile<'_>,
@@ -61,12 +61,13 @@ pub(crate) fn write_core<R: Threads + Wait + Sync, W: Write>(
 ) -> Result<(), TranscriptFault>
     ensures written { OnOk result (Appends (W.contents output.old) (W.contents output.new) (core_text_of file.entry.core.now file.entry.strays.now)) }
     ensures left { IfErr result (Leaves W.contents (core_text_of file.entry.core.now file.entry.strays.now) output.old output.new) }
+    ensures failed { IfErr result (HasCause (C.has_failed output.new)) }
 {
     let sections = sections_of_games(alloc, file.core)?;
     let transcript = Transcript {
         sections: sections.as_slice(),
         strays: file.strays,
     };
-    write_transcript(rt, alloc, transcript, threads, output)?;
+    write_transcript_by::<R, W, C>(rt, alloc, transcript, threads, output)?;
     Ok(())
 }

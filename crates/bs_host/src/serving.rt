@@ -11,7 +11,7 @@ ghost use Rattle.bs_workers.specs.Acts.{opened};
 ghost use Rattle.bs_host.specs.Routing.{capacity_of, routes_from};
 ghost use Rattle.bs_host.specs.inner.Parsed.{all_lines, parsed_lines};
 ghost use Rattle.bs_host.specs.inner.Routing.{IsRouted};
-ghost use Rattle.bs_host.specs.Faults.{refusal_of, refusal_of_plan, IsFault, Leaves};
+ghost use Rattle.bs_host.specs.Faults.{refusal_of, refusal_of_plan, HasCause, IsFault, Leaves};
 ghost use Rattle.bs_host.specs.inner.Faults.{IsRefusal};
 ghost use Rattle.bs_host.specs.Transcript.{transcript_of};
 
@@ -25,6 +25,7 @@ use crate::route::{Requests, route_lines};
 use bs_board::Plan;
 use bs_json::read_plan;
 use bs_sched::Core;
+use bs_transcript::{Unrecorded, WriteCalls};
 use bs_workers::{Gate, run};
 use std::alloc::{AllocError, Global};
 use std::io::Write;
@@ -139,6 +140,36 @@ fn read_requests<R: Threads + Sync>(
     ))
 }
 
+/// Like `serve`, by the calls `C`: a fault of the writer is a call that failed.
+pub fn serve_by<R: Threads + Wait + Sync, G: Gate, W: Write, C: WriteCalls<W>>(
+    rt: &R,
+    alloc: Global,
+    input: &[u8],
+    blocks: usize,
+    workers: usize,
+    gate: &G,
+    output: &mut W,
+) -> Result<Core<BLOCK_BYTES>, Fault>
+    ensures served { OnOk result (refusal_of blocks input.now ≡ None) }
+    ensures core { IfOk result (Hosts blocks input.now) }
+    ensures written { OnOk result (Appends (W.contents output.old) (W.contents output.new) (transcript_of blocks input.now)) }
+    ensures fault { IfErr result (IsFault (refusal_of blocks input.now)) }
+    ensures left { IfErr result (Leaves W.contents (transcript_of blocks input.now) output.old output.new) }
+    ensures failed { IfErr result (HasCause (C.has_failed output.new)) }
+{
+    let threads = workers.min(MOST_THREADS);
+    let (plan, text) = read_file(alloc, input)?;
+    let file = CommandFile {
+        blocks,
+        plan: &plan,
+        rest: text,
+    };
+    let (core, Requests { acts, strays }) = read_requests(rt, alloc, file, threads)?;
+    let core = run(rt, alloc, core, acts.as_slice(), threads, gate)?;
+    let played = Played { core, acts, strays };
+    Ok(played.write::<R, W, C>(rt, alloc, threads, output)?)
+}
+
 /// Serves a command file with `blocks` blocks of memory and `workers` threads, the caller's
 /// included: a core answers each game's commands in the order of their lines, then the transcript
 /// is written. If there are several threads, one more opens the core while the others parse, and
@@ -160,15 +191,5 @@ pub fn serve<R: Threads + Wait + Sync, G: Gate, W: Write>(
     ensures fault { IfErr result (IsFault (refusal_of blocks input.now)) }
     ensures left { IfErr result (Leaves W.contents (transcript_of blocks input.now) output.old output.new) }
 {
-    let threads = workers.min(MOST_THREADS);
-    let (plan, text) = read_file(alloc, input)?;
-    let file = CommandFile {
-        blocks,
-        plan: &plan,
-        rest: text,
-    };
-    let (core, Requests { acts, strays }) = read_requests(rt, alloc, file, threads)?;
-    let core = run(rt, alloc, core, acts.as_slice(), threads, gate)?;
-    let played = Played { core, acts, strays };
-    Ok(played.write(rt, alloc, threads, output)?)
+    serve_by::<R, G, W, Unrecorded>(rt, alloc, input, blocks, workers, gate, output)
 }

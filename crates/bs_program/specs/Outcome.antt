@@ -5,9 +5,9 @@ use Rattle.bs_host.specs.declared.limits.TheConstants.{MOST_FILE_BYTES}
 use Rattle.bs_host.specs.declared.read.ReadFault.{ReadFault}
 use Rattle.bs_host.specs.declared.read.ReadFault.TheVariants as read
 use Rattle.bs_host.specs.Cut.{cut_of, cut_refusal_of, nth_stay, IsCutRefusal}
-use Rattle.bs_host.specs.Faults.{refusal_of, IsFault, Leaves}
+use Rattle.bs_host.specs.Faults.{refusal_of, HasCause, IsFault, Leaves}
 use Rattle.bs_host.specs.Live.{live_of}
-use Rattle.bs_host.specs.LiveFaults.{live_refusal_of, IsLiveFault, LeavesLive}
+use Rattle.bs_host.specs.LiveFaults.{live_refusal_of, HasLiveCause, IsLiveFault, LeavesLive}
 use Rattle.bs_host.specs.Transcript.{transcript_of}
 use Rattle.bs_program.specs.declared.failure.Failure.{Failure}
 use Rattle.bs_program.specs.declared.failure.Failure.TheVariants.{Read, Cut, Serve, Live, Flush}
@@ -37,38 +37,39 @@ pub record IsTooLong (left : Option (List ℕ)) (named : Named) (name : List ℕ
   pub bytes : name ≡ codes "-" → IfSome left (λ bytes. MOST_FILE_BYTES < length bytes)
   pub other : name ≢ codes "-" → IfSome (named name) (λ bytes. MOST_FILE_BYTES < length bytes)
 
--- a file is too long only if it has more bytes than a file may have
-abbrev pub IsReadFault : Option (List ℕ) → Named → List ℕ → ReadFault → Type 0
-IsReadFault left named name read.Device = Unit {0}
-IsReadFault left named name read.TooLong = IsTooLong left named name
-IsReadFault left named name read.Memory = Unit {0}
+-- `-` cannot be read only if `failed`, and a file is too long only if it has more bytes than a file
+-- may have
+abbrev pub IsReadFault : Type 0 → Option (List ℕ) → Named → List ℕ → ReadFault → Type 0
+IsReadFault failed left named name read.Device = name ≡ codes "-" → failed
+IsReadFault failed left named name read.TooLong = IsTooLong left named name
+IsReadFault failed left named name read.Memory = Unit {0}
 
 -- These bytes were appended to the output.
 abbrev pub Gains : {W : Type 0} → (W → Option (List ℕ)) → Output W → Output W → List ℕ → Type 0
 Gains contents old new = Appends (held_by contents old) (held_by contents new)
 
--- A file is served with `blocks` blocks: the whole transcript, flushed; or a fault of `serve`, and
--- what it leaves; or the whole transcript, and a flush that failed.
+-- A file is served with `blocks` blocks: the whole transcript, flushed; or a fault of `serve`, what
+-- it leaves, and its cause; or the whole transcript, and a flush that failed.
 abbrev pub Serves : {W : Type 0} → (W → Option (List ℕ)) → ℕ → List ℕ → Output W → Output W → Answer → Type 0
 Serves contents blocks file old new (Ok done) =
     (refusal_of blocks file ≡ None) × Gains contents old new (transcript_of blocks file) × (new.is_flushed ≡ true)
 Serves contents blocks file old new (Err (Read fault)) = ⊥
 Serves contents blocks file old new (Err (Cut fault)) = ⊥
 Serves contents blocks file old new (Err (Serve fault)) =
-    IsFault (refusal_of blocks file) fault × Leaves (held_by contents) (transcript_of blocks file) old new fault
+    IsFault (refusal_of blocks file) fault × Leaves (held_by contents) (transcript_of blocks file) old new fault × HasCause (new.has_failed ≡ true) fault
 Serves contents blocks file old new (Err (Live fault)) = ⊥
 Serves contents blocks file old new (Err Flush) =
     (refusal_of blocks file ≡ None) × Gains contents old new (transcript_of blocks file) × (new.has_failed ≡ true)
 
 -- `arena serve`: the file was not read, and nothing is written; or it is served.
-abbrev pub ServesFile : {W : Type 0} → (W → Option (List ℕ)) → Option (List ℕ) → Named → List ℕ → ℕ → Output W → Output W → Answer → Type 0
-ServesFile contents left named name blocks old new (Err (Read fault)) = IsReadFault left named name fault × (new ≡ old)
-ServesFile contents left named name blocks old new (Ok done) = (file : List ℕ) × IsInput left named name file × Serves contents blocks file old new (Ok done)
-ServesFile contents left named name blocks old new (Err (Cut fault)) = ⊥
-ServesFile contents left named name blocks old new (Err (Serve fault)) =
+abbrev pub ServesFile : {W : Type 0} → (W → Option (List ℕ)) → Type 0 → Option (List ℕ) → Named → List ℕ → ℕ → Output W → Output W → Answer → Type 0
+ServesFile contents failed left named name blocks old new (Err (Read fault)) = IsReadFault failed left named name fault × (new ≡ old)
+ServesFile contents failed left named name blocks old new (Ok done) = (file : List ℕ) × IsInput left named name file × Serves contents blocks file old new (Ok done)
+ServesFile contents failed left named name blocks old new (Err (Cut fault)) = ⊥
+ServesFile contents failed left named name blocks old new (Err (Serve fault)) =
     (file : List ℕ) × IsInput left named name file × Serves contents blocks file old new (Err (Serve fault))
-ServesFile contents left named name blocks old new (Err (Live fault)) = ⊥
-ServesFile contents left named name blocks old new (Err Flush) = (file : List ℕ) × IsInput left named name file × Serves contents blocks file old new (Err Flush)
+ServesFile contents failed left named name blocks old new (Err (Live fault)) = ⊥
+ServesFile contents failed left named name blocks old new (Err Flush) = (file : List ℕ) × IsInput left named name file × Serves contents blocks file old new (Err Flush)
 
 -- a game, and which of its stays
 pub record Wanted : Type 0 where
@@ -85,34 +86,35 @@ pub record PlaysStay {W : Type 0} (contents : W → Option (List ℕ)) (left : O
 
 -- `arena alone`: the file was not read, or cannot be cut to that stay, and nothing is written; or
 -- the stay's own lines are served.
-abbrev pub PlaysAlone : {W : Type 0} → (W → Option (List ℕ)) → Option (List ℕ) → Named → List ℕ → Wanted → ℕ → Output W → Output W → Answer → Type 0
-PlaysAlone contents left named name wanted blocks old new (Err (Read fault)) = IsReadFault left named name fault × (new ≡ old)
-PlaysAlone contents left named name wanted blocks old new (Err (Cut fault)) =
+abbrev pub PlaysAlone : {W : Type 0} → (W → Option (List ℕ)) → Type 0 → Option (List ℕ) → Named → List ℕ → Wanted → ℕ → Output W → Output W → Answer → Type 0
+PlaysAlone contents failed left named name wanted blocks old new (Err (Read fault)) = IsReadFault failed left named name fault × (new ≡ old)
+PlaysAlone contents failed left named name wanted blocks old new (Err (Cut fault)) =
     (file : List ℕ) × IsInput left named name file × IsCutRefusal (cut_refusal_of blocks file wanted.game wanted.nth) fault × (new ≡ old)
-PlaysAlone contents left named name wanted blocks old new (Ok done) = PlaysStay contents left named name wanted blocks old new (Ok done)
-PlaysAlone contents left named name wanted blocks old new (Err (Serve fault)) = PlaysStay contents left named name wanted blocks old new (Err (Serve fault))
-PlaysAlone contents left named name wanted blocks old new (Err (Live fault)) = ⊥
-PlaysAlone contents left named name wanted blocks old new (Err Flush) = PlaysStay contents left named name wanted blocks old new (Err Flush)
+PlaysAlone contents failed left named name wanted blocks old new (Ok done) = PlaysStay contents left named name wanted blocks old new (Ok done)
+PlaysAlone contents failed left named name wanted blocks old new (Err (Serve fault)) = PlaysStay contents left named name wanted blocks old new (Err (Serve fault))
+PlaysAlone contents failed left named name wanted blocks old new (Err (Live fault)) = ⊥
+PlaysAlone contents failed left named name wanted blocks old new (Err Flush) = PlaysStay contents left named name wanted blocks old new (Err Flush)
 
--- `arena live`: the answers to all lines, flushed; or a fault of `serve_live`, and what it leaves;
--- or all answers, and a last flush that failed. If the reader's bytes are not known, nothing is
--- claimed of what is written.
-abbrev pub ServesLive : {W : Type 0} → (W → Option (List ℕ)) → Option (List ℕ) → ℕ → Output W → Output W → Answer → Type 0
-ServesLive contents left blocks old new (Ok done) =
+-- `arena live`: the answers to all lines, flushed; or a fault of `serve_live`, what it leaves, and
+-- its cause; or all answers, and a last flush that failed. If the reader's bytes are not known,
+-- nothing is claimed of what is written.
+abbrev pub ServesLive : {W : Type 0} → (W → Option (List ℕ)) → Type 0 → Option (List ℕ) → ℕ → Output W → Output W → Answer → Type 0
+ServesLive contents failed left blocks old new (Ok done) =
     IfSome left (λ file. (live_refusal_of blocks file ≡ None) × Gains contents old new (live_of blocks file)) × (new.is_flushed ≡ true)
-ServesLive contents left blocks old new (Err (Read fault)) = ⊥
-ServesLive contents left blocks old new (Err (Cut fault)) = ⊥
-ServesLive contents left blocks old new (Err (Serve fault)) = ⊥
-ServesLive contents left blocks old new (Err (Live fault)) =
+ServesLive contents failed left blocks old new (Err (Read fault)) = ⊥
+ServesLive contents failed left blocks old new (Err (Cut fault)) = ⊥
+ServesLive contents failed left blocks old new (Err (Serve fault)) = ⊥
+ServesLive contents failed left blocks old new (Err (Live fault)) =
     IfSome left (λ file. IsLiveFault (live_refusal_of blocks file) fault × LeavesLive blocks file (held_by contents old) (held_by contents new) fault)
-ServesLive contents left blocks old new (Err Flush) =
+    × HasLiveCause failed (new.has_failed ≡ true) fault
+ServesLive contents failed left blocks old new (Err Flush) =
     IfSome left (λ file. (live_refusal_of blocks file ≡ None) × Gains contents old new (live_of blocks file)) × (new.has_failed ≡ true)
 
--- the request is done
-abbrev pub Does : {W : Type 0} → (W → Option (List ℕ)) → Option (List ℕ) → Named → Asked → Output W → Output W → Answer → Type 0
-Does contents left named (serve name blocks workers) = ServesFile contents left named name blocks
-Does contents left named (alone name game nth blocks) = PlaysAlone contents left named name (record { game = game; nth = nth }) blocks
-Does contents left named (live blocks) = ServesLive contents left blocks
+-- the request is done; `failed` says that a call of the reader failed
+abbrev pub Does : {W : Type 0} → (W → Option (List ℕ)) → Type 0 → Option (List ℕ) → Named → Asked → Output W → Output W → Answer → Type 0
+Does contents failed left named (serve name blocks workers) = ServesFile contents failed left named name blocks
+Does contents failed left named (alone name game nth blocks) = PlaysAlone contents failed left named name (record { game = game; nth = nth }) blocks
+Does contents failed left named (live blocks) = ServesLive contents failed left blocks
 
 -- The status and the line.
 -- The text was written, unless the writer failed at some call.

@@ -3,7 +3,9 @@
 #![tactic(auto)]
 
 mod failure;
+mod input;
 mod reason;
+mod recorded;
 mod report;
 mod request;
 mod running;
@@ -11,6 +13,7 @@ mod source;
 mod stream;
 
 pub use failure::Failure;
+pub use input::Input;
 pub use reason::Reason;
 pub use report::{concluded, reported};
 pub use request::{Request, STANDARD_INPUT, Serving, Solo};

@@ -2,13 +2,16 @@
 ghost use Rattle.std.specs.Prelude.{◌≡◌, IfOk, IfErr};
 ghost use Rattle.bs_program.specs.Asked.{asked_for};
 ghost use Rattle.bs_program.specs.Outcome.{Does, IsInput, IsReadFault, PlaysAlone, Serves, ServesFile, ServesLive};
+ghost use Rattle.bs_program.specs.Streams.{left_in, HasReadFailed};
 ghost use Rattle.bs_program.specs.inner.Outcome.{Finishes};
 
 use crate::failure::Failure;
+use crate::input::Input;
+use crate::recorded::Recorded;
 use crate::request::{Request, STANDARD_INPUT, Serving, Solo};
 use crate::source::Sources;
 use crate::stream::Output;
-use bs_host::{ReadFault, cut, read_input, serve, serve_live};
+use bs_host::{ReadFault, cut, read_input, read_input_by, serve_by, serve_live_by};
 use bs_workers::OpenGate;
 use std::alloc::Global;
 use std::io::{self, Read, Write};
@@ -31,13 +34,13 @@ fn read_file<S: Sources, R: Read>(
     rt: &S,
     alloc: Global,
     name: &str,
-    input: &mut R,
+    input: &mut Input<R>,
 ) -> Result<Vec<u8>, ReadFault>
-    ensures bytes { IfOk result (λ bytes. IsInput (R.remaining input.old) (S.named rt.now) name.now bytes.items) }
-    ensures fault { IfErr result (IsReadFault (R.remaining input.old) (S.named rt.now) name.now) }
+    ensures bytes { IfOk result (λ bytes. IsInput (left_in R.remaining input.old) (S.named rt.now) name.now bytes.items) }
+    ensures fault { IfErr result (IsReadFault (HasReadFailed input.new) (left_in R.remaining input.old) (S.named rt.now) name.now) }
 {
     if name == STANDARD_INPUT {
-        return read_input(alloc, input);
+        return read_input_by::<Input<R>, Recorded>(alloc, input);
     }
     match rt.open(name) {
         Ok(mut opened) => read_input(alloc, &mut opened),
@@ -69,7 +72,9 @@ fn serve_bytes<H: Threads + Wait + Sync, W: Write>(
 {
     let blocks = usize::from(with.blocks);
     let workers = usize::from(with.workers);
-    match serve(rt, alloc, bytes, blocks, workers, &OpenGate, output) {
+    match serve_by::<H, OpenGate, Output<W>, Recorded>(
+        rt, alloc, bytes, blocks, workers, &OpenGate, output,
+    ) {
         Ok(core) => {
             finish(output)?;
             mem::forget(core);
@@ -84,10 +89,10 @@ fn serve_file<H: Sources + Threads + Wait + Sync, R: Read, W: Write>(
     rt: &H,
     alloc: Global,
     request: Serving<'_>,
-    input: &mut R,
+    input: &mut Input<R>,
     output: &mut Output<W>,
 ) -> Result<(), Failure>
-    ensures { ServesFile W.contents (R.remaining input.old) (H.named rt.now) request.entry.file.now request.entry.blocks output.old output.new result }
+    ensures { ServesFile W.contents (HasReadFailed input.new) (left_in R.remaining input.old) (H.named rt.now) request.entry.file.now request.entry.blocks output.old output.new result }
 {
     let bytes = read_file(rt, alloc, request.file, input).map_err(Failure::Read)?;
     let with = Resources {
@@ -102,10 +107,10 @@ fn play_alone<H: Sources + Threads + Wait + Sync, R: Read, W: Write>(
     rt: &H,
     alloc: Global,
     request: Solo<'_>,
-    input: &mut R,
+    input: &mut Input<R>,
     output: &mut Output<W>,
 ) -> Result<(), Failure>
-    ensures { PlaysAlone W.contents (R.remaining input.old) (H.named rt.now) request.entry.file.now (record { game = request.entry.game.now; nth = request.entry.stay }) request.entry.blocks output.old output.new result }
+    ensures { PlaysAlone W.contents (HasReadFailed input.new) (left_in R.remaining input.old) (H.named rt.now) request.entry.file.now (record { game = request.entry.game.now; nth = request.entry.stay }) request.entry.blocks output.old output.new result }
 {
     let bytes = read_file(rt, alloc, request.file, input).map_err(Failure::Read)?;
     let blocks = usize::from(request.blocks);
@@ -122,12 +127,14 @@ fn play_alone<H: Sources + Threads + Wait + Sync, R: Read, W: Write>(
 fn play_live<R: Read, W: Write>(
     alloc: Global,
     blocks: u16,
-    input: &mut R,
+    input: &mut Input<R>,
     output: &mut Output<W>,
 ) -> Result<(), Failure>
-    ensures { ServesLive W.contents (R.remaining input.old) blocks output.old output.new result }
+    ensures { ServesLive W.contents (HasReadFailed input.new) (left_in R.remaining input.old) blocks output.old output.new result }
 {
-    serve_live(alloc, input, usize::from(blocks), output).map_err(Failure::Live)?;
+    let blocks = usize::from(blocks);
+    let served = serve_live_by::<Input<R>, Output<W>, Recorded>(alloc, input, blocks, output);
+    served.map_err(Failure::Live)?;
     finish(output)
 }
 
@@ -136,10 +143,10 @@ pub fn run_request<H: Sources + Threads + Wait + Sync, R: Read, W: Write>(
     rt: &H,
     alloc: Global,
     request: Request<'_>,
-    input: &mut R,
+    input: &mut Input<R>,
     output: &mut Output<W>,
 ) -> Result<(), Failure>
-    ensures { Does W.contents (R.remaining input.old) (H.named rt.now) (asked_for request.entry) output.old output.new result }
+    ensures { Does W.contents (HasReadFailed input.new) (left_in R.remaining input.old) (H.named rt.now) (asked_for request.entry) output.old output.new result }
 {
     match request {
         Request::Serve(request) => serve_file(rt, alloc, request, input, output),

@@ -2,7 +2,8 @@
 ghost use Rattle.std.specs.Prelude.{◌≡◌, ◌||◌, false, true, OnOk, OnErr, length};
 ghost use Rattle.std.specs.Io.{WritesAtMost};
 ghost use Rattle.std.specs.Io.KnownBytes.{Keeps, WriteAppends};
-ghost use Rattle.bs_program.specs.Streams.{is_failure, is_gain};
+ghost use Rattle.bs_transcript.specs.Failing.{is_failure};
+ghost use Rattle.bs_program.specs.Streams.{is_gain};
 
 use std::io::{self, Write};
 
@@ -52,6 +53,13 @@ impl<W: Write> Output<W> {
             has_bytes: false,
             has_failed: false,
         }
+    }
+
+    /// Whether a call of the writer failed.
+    pub fn has_failed(&self) -> bool
+        ensures { result ≡ self.now.has_failed }
+    {
+        self.has_failed
     }
 
     /// Whether the writer took a byte.

@@ -1,3 +1,4 @@
+pub mod Failing
 pub mod Lines
 pub mod Written
 pub mod inner

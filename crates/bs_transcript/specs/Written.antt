@@ -13,3 +13,8 @@ IsCutOff written old new text = (written < length text) × Appends old new (take
 abbrev pub Leaves : {W : Type 0} → (W → Option (List ℕ)) → List ℕ → W → W → TranscriptFault → Type 0
 Leaves contents text old new Memory = new ≡ old
 Leaves contents text old new (Write fault) = IsCutOff fault.written (contents old) (contents new) text
+
+-- a fault of the writer has this cause; nothing is claimed of `Memory`
+abbrev pub HasCause : Type 0 → TranscriptFault → Type 0
+HasCause failed Memory = Unit {0}
+HasCause failed (Write fault) = failed

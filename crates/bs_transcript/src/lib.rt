@@ -3,6 +3,7 @@
 #![tactic(auto)]
 
 mod bounds;
+mod calls;
 mod channel;
 mod cursor;
 mod fault;
@@ -15,7 +16,8 @@ mod together;
 mod write;
 mod writing;
 
+pub use calls::{Unrecorded, WriteCalls};
 pub use fault::TranscriptFault;
-pub use lines::{text, write_transcript};
+pub use lines::{text, write_transcript, write_transcript_by};
 pub use section::{Section, Transcript};
-pub use write::{WriteFault, write_all_of};
+pub use write::{WriteFault, write_all_by, write_all_of};

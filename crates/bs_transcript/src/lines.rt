@@ -2,9 +2,10 @@
 ghost use Rattle.std.specs.Prelude.{◌≡◌, OnOk, IfOk, IfErr};
 ghost use Rattle.std.specs.Io.KnownBytes.{Appends};
 ghost use Rattle.bs_transcript.specs.Lines.{text_of};
-ghost use Rattle.bs_transcript.specs.Written.{Leaves};
+ghost use Rattle.bs_transcript.specs.Written.{HasCause, Leaves};
 
 use crate::bounds::bound_all;
+use crate::calls::{Unrecorded, WriteCalls};
 use crate::fault::TranscriptFault;
 use crate::line_buffer::LineBuffer;
 use crate::section::{Section, Transcript};
@@ -26,7 +27,7 @@ const MOST_RENDERERS: usize = 4;
 
 /// Writes a transcript by the calling thread alone, through one buffer of 64 KiB and the longest
 /// line.
-fn write_alone<W: Write>(
+fn write_alone<W: Write, C: WriteCalls<W>>(
     alloc: Global,
     sections: &[Section<'_>],
     strays: &[(u64, Stray)],
@@ -34,12 +35,39 @@ fn write_alone<W: Write>(
 ) -> Result<(), TranscriptFault>
     ensures written { OnOk result (Appends (W.contents output.old) (W.contents output.new) (text_of sections.now strays.now)) }
     ensures left { IfErr result (Leaves W.contents (text_of sections.now strays.now) output.old output.new) }
+    ensures failed { IfErr result (HasCause (C.has_failed output.new)) }
 {
     let bounds = bound_all(sections, strays)?;
     let mut buffer = LineBuffer::open(alloc, bounds.longest)?;
-    buffer.push_all(sections, strays, output)?;
-    buffer.write_out(output)?;
+    buffer.push_all::<W, C>(sections, strays, output)?;
+    buffer.write_out::<W, C>(output)?;
     Ok(())
+}
+
+/// Like `write_transcript`, by the calls `C`: a fault of the writer is a call that failed.
+pub fn write_transcript_by<R: Threads + Wait + Sync, W: Write, C: WriteCalls<W>>(
+    rt: &R,
+    alloc: Global,
+    transcript: Transcript<'_>,
+    threads: usize,
+    output: &mut W,
+) -> Result<(), TranscriptFault>
+    ensures written { OnOk result (Appends (W.contents output.old) (W.contents output.new) (text_of transcript.entry.sections.now transcript.entry.strays.now)) }
+    ensures left { IfErr result (Leaves W.contents (text_of transcript.entry.sections.now transcript.entry.strays.now) output.old output.new) }
+    ensures failed { IfErr result (HasCause (C.has_failed output.new)) }
+{
+    let Transcript { sections, strays } = transcript;
+    if threads <= 1 {
+        return write_alone::<W, C>(alloc, sections, strays, output);
+    }
+    let bounds = bound_all(sections, strays)?;
+    let most = (bounds.total / FEWEST_BYTES).min(MOST_RENDERERS);
+    let source = Source {
+        sections,
+        strays,
+        bounds,
+    };
+    write_together::<Brand, R, W, C>(rt, alloc, source, (threads - 1).min(most), output)
 }
 
 /// Writes the games' sections in order, then the lines that belong to no game, each with its number
@@ -59,18 +87,7 @@ pub fn write_transcript<R: Threads + Wait + Sync, W: Write>(
     ensures written { OnOk result (Appends (W.contents output.old) (W.contents output.new) (text_of transcript.entry.sections.now transcript.entry.strays.now)) }
     ensures left { IfErr result (Leaves W.contents (text_of transcript.entry.sections.now transcript.entry.strays.now) output.old output.new) }
 {
-    let Transcript { sections, strays } = transcript;
-    if threads <= 1 {
-        return write_alone(alloc, sections, strays, output);
-    }
-    let bounds = bound_all(sections, strays)?;
-    let most = (bounds.total / FEWEST_BYTES).min(MOST_RENDERERS);
-    let source = Source {
-        sections,
-        strays,
-        bounds,
-    };
-    write_together::<Brand, R, W>(rt, alloc, source, (threads - 1).min(most), output)
+    write_transcript_by::<R, W, Unrecorded>(rt, alloc, transcript, threads, output)
 }
 
 /// Renders the games' sections in order, then the lines that belong to no game, each with its
@@ -83,7 +100,7 @@ pub fn text(
     ensures { IfOk result (λ text. text.items ≡ text_of sections.now strays.now) }
 {
     let mut text = Vec::new(alloc);
-    match write_alone(alloc, sections, strays, &mut text) {
+    match write_alone::<Vec<u8>, Unrecorded>(alloc, sections, strays, &mut text) {
         Ok(()) => Ok(text),
         Err(_) => Err(AllocError),
     }

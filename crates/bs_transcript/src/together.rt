@@ -1,12 +1,13 @@
 //! Several threads render a transcript, and the calling thread writes it.
-ghost use Rattle.std.specs.Prelude.{◌≡◌, ◌<◌, ◌≤◌, ◌^◌, List, ℕ, Option, drop, length, IfErr, MatchResult, OnOk};
+ghost use Rattle.std.specs.Prelude.{◌≡◌, ◌<◌, ◌≤◌, ◌^◌, List, ℕ, Option, drop, length, IfErr, MatchResult, OnOk, OnErr};
 ghost use Rattle.std.specs.Io.KnownBytes.{Appends};
 ghost use Rattle.bs_transcript.specs.Lines.{text_of};
-ghost use Rattle.bs_transcript.specs.Written.{IsCutOff, Leaves};
+ghost use Rattle.bs_transcript.specs.Written.{HasCause, IsCutOff, Leaves};
 ghost use Rattle.bs_transcript.specs.inner.Buffer.{AreBounded, IsOnItsWay};
 ghost use Rattle.bs_transcript.specs.inner.Parts.{all_lines_of};
 
 use crate::bounds::Bounds;
+use crate::calls::WriteCalls;
 use crate::channel::Channel;
 use crate::cursor::{Cursor, Lines};
 use crate::fault::TranscriptFault;
@@ -105,7 +106,7 @@ pub(crate) struct Source<'t> {
 }
 
 /// Writes a transcript that the threads of these channels render. Starts them before it writes.
-fn write_with<L: Lines + Send + Sync, R: Threads + Wait + Sync, W: Write>(
+fn write_with<L: Lines + Send + Sync, R: Threads + Wait + Sync, W: Write, C: WriteCalls<W>>(
     rt: &R,
     source: Source<'_>,
     channels: &[Channel<L>],
@@ -116,6 +117,7 @@ fn write_with<L: Lines + Send + Sync, R: Threads + Wait + Sync, W: Write>(
     requires way { IsOnItsWay (W.contents output.old) (W.contents output.old) writing.buffer (text_of source.sections.now source.strays.now) (drop writing.at.number L.lines) }
     ensures written { OnOk result (Appends (W.contents output.old) (W.contents output.new) (text_of source.entry.sections.now source.entry.strays.now)) }
     ensures cut { IfErr result (λ fault. IsCutOff fault.written (W.contents output.old) (W.contents output.new) (text_of source.entry.sections.now source.entry.strays.now)) }
+    ensures failed { OnErr result (C.has_failed output.new) }
 {
     let Source {
         sections,
@@ -130,6 +132,7 @@ fn write_with<L: Lines + Send + Sync, R: Threads + Wait + Sync, W: Write>(
             requires { (length L.lines < 2 ^ 64) × (L.lines ≡ all_lines_of sections.now strays.now) }
             ensures sent { (first : Option (List ℕ)) (text : List ℕ) → IsOnItsWay first (W.contents output.entry.now) writing.entry.buffer text (drop writing.entry.at.number L.lines)
                 → MatchResult result.0 (λ _. Appends first (W.contents result.1.now) text) (λ fault. IsCutOff fault.written first (W.contents result.1.now) text) }
+            ensures failed { OnErr result.0 (C.has_failed result.1.now) }
             ensures same { result.1.ghost_name ≡ output.entry.ghost_name }
         {
             for thread in 0..channels.len() {
@@ -145,7 +148,7 @@ fn write_with<L: Lines + Send + Sync, R: Threads + Wait + Sync, W: Write>(
                     channels[thread].close(rt);
                 }
             }
-            let written = writing.write_all(rt, channels, order, output);
+            let written = writing.write_all::<R, W, C>(rt, channels, order, output);
             close_all(rt, channels);
             (written, output)
         },
@@ -154,7 +157,12 @@ fn write_with<L: Lines + Send + Sync, R: Threads + Wait + Sync, W: Write>(
 }
 
 /// Writes a transcript that `renderers` further threads render. Allocates before it writes.
-pub(crate) fn write_together<L: Lines + Send + Sync, R: Threads + Wait + Sync, W: Write>(
+pub(crate) fn write_together<
+    L: Lines + Send + Sync,
+    R: Threads + Wait + Sync,
+    W: Write,
+    C: WriteCalls<W>,
+>(
     rt: &R,
     alloc: Global,
     source: Source<'_>,
@@ -165,12 +173,13 @@ pub(crate) fn write_together<L: Lines + Send + Sync, R: Threads + Wait + Sync, W
     requires bounds { AreBounded source.bounds L.lines }
     ensures written { OnOk result (Appends (W.contents output.old) (W.contents output.new) (text_of source.entry.sections.now source.entry.strays.now)) }
     ensures left { IfErr result (Leaves W.contents (text_of source.entry.sections.now source.entry.strays.now) output.old output.new) }
+    ensures failed { IfErr result (HasCause (C.has_failed output.new)) }
 {
     let channels: Vec<Channel<L>> = open_channels(alloc, renderers, source.bounds.longest)?;
     let writing: Writing<'_, L> = Writing {
         buffer: LineBuffer::open(alloc, source.bounds.longest)?,
         at: Cursor::start(source.sections, source.strays),
     };
-    write_with(rt, source, channels.as_slice(), writing, output)?;
+    write_with::<L, R, W, C>(rt, source, channels.as_slice(), writing, output)?;
     Ok(())
 }

@@ -1,7 +1,7 @@
 //! Writers and systems of the tests.
 use bs_program::Sources;
 use std::io;
-use std::io::{ErrorKind, Write};
+use std::io::{ErrorKind, Read, Write};
 use std::sync::Wait;
 use std::thread::Threads;
 
@@ -31,6 +31,16 @@ impl Write for Device {
         self.flushes = self.flushes.saturating_sub(1);
         self.flushed = Some(self.taken.len());
         Ok(())
+    }
+}
+
+/// A reader whose every read fails.
+#[derive(Drop)]
+pub(crate) struct Unreadable;
+
+impl Read for Unreadable {
+    fn read(&mut self, _buf: &mut [u8]) -> io::Result<usize> {
+        Err(io::Error::from(ErrorKind::BrokenPipe))
     }
 }
 

@@ -1,7 +1,7 @@
 //! Files by their names, and want of memory.
-use crate::devices::{Device, Shelf};
+use crate::devices::{Device, Shelf, Unreadable};
 use bs_host::ReadFault;
-use bs_program::{Failure, Output, Request, Serving, Solo, run_request};
+use bs_program::{Failure, Input, Output, Request, Serving, Solo, run_request};
 use bs_samples::{holds, same};
 use std::alloc::Global;
 use std::io::ErrorKind;
@@ -30,7 +30,7 @@ fn served<H: Threads + Wait + Sync>(
         bytes: PLAN_OF_A.as_bytes(),
         error,
     };
-    let mut input = PLAN_OF_B.as_bytes();
+    let mut input = Input::new(PLAN_OF_B.as_bytes());
     run_request(
         &system,
         alloc,
@@ -93,6 +93,28 @@ fn a_file_that_cannot_be_opened(rt: HostRuntime) -> Result<(), Fail> {
         };
         same("memory", seen, Some(is_memory))?;
         same("nothing is written", device.taken.len(), 0)?;
+    }
+    Ok(())
+}
+
+/// A standard input whose reads fail is not read; a named file is served beside it.
+#[test]
+fn a_standard_input_that_fails(rt: HostRuntime) -> Result<(), Fail> {
+    let alloc = rt.alloc();
+    let system = Shelf {
+        rt: &rt,
+        name: "games.jsonl",
+        bytes: PLAN_OF_A.as_bytes(),
+        error: ErrorKind::NotFound,
+    };
+    for (file, is_read) in [("-", false), ("games.jsonl", true)] {
+        let mut device = device(alloc);
+        let mut input = Input::new(Unreadable);
+        let mut output = Output::new(&mut device);
+        let answer = run_request(&system, alloc, serve(file), &mut input, &mut output);
+        let fails = matches!(answer, Err(Failure::Read(ReadFault::Device)));
+        same("cannot be read", fails, !is_read)?;
+        same("is done", answer.is_ok(), is_read)?;
     }
     Ok(())
 }

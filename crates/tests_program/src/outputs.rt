@@ -1,7 +1,7 @@
 //! Outputs that count their flushes, and outputs that fail.
 use crate::devices::Device;
 use bs_host::Fault;
-use bs_program::{Failure, Output, Request, Serving, Solo, Sources, run_request};
+use bs_program::{Failure, Input, Output, Request, Serving, Solo, Sources, run_request};
 use bs_samples::{holds, same};
 use std::alloc::Global;
 use std::io::Write;
@@ -47,7 +47,7 @@ fn check<H: Sources + Threads + Wait + Sync>(
     text: &str,
 ) -> Result<(), Fail> {
     let mut device = device(alloc, 1000, 100);
-    let mut input = TWO_GAMES.as_bytes();
+    let mut input = Input::new(TWO_GAMES.as_bytes());
     let mut output = Output::new(&mut device);
     holds(
         "it is done",
@@ -71,7 +71,7 @@ fn all_is_flushed_at_the_end(rt: HostRuntime) -> Result<(), Fail> {
 fn an_output_that_cannot_be_flushed(rt: HostRuntime) -> Result<(), Fail> {
     let alloc = rt.alloc();
     let mut device = device(alloc, 1000, 0);
-    let mut input = TWO_GAMES.as_bytes();
+    let mut input = Input::new(TWO_GAMES.as_bytes());
     let mut output = Output::new(&mut device);
     let answer = run_request(&rt, alloc, SERVE, &mut input, &mut output);
     holds("a flush that failed", matches!(answer, Err(Failure::Flush)))?;
@@ -88,7 +88,7 @@ fn an_output_that_fails(rt: HostRuntime) -> Result<(), Fail> {
     let alloc = rt.alloc();
     for room in 0..TWO_GAMES_END.len() {
         let mut device = device(alloc, room, 100);
-        let mut input = TWO_GAMES.as_bytes();
+        let mut input = Input::new(TWO_GAMES.as_bytes());
         let mut output = Output::new(&mut device);
         let answer = run_request(&rt, alloc, SERVE, &mut input, &mut output);
         let Err(Failure::Serve(Fault::Write(written))) = answer else {

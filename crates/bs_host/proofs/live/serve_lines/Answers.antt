@@ -5,9 +5,11 @@ use Rattle.bs_board.specs.declared.plans.version.Version.{Version}
 use Rattle.bs_board.specs.plans.Plan.{GameRow}
 use Rattle.bs_host.specs.declared.live_fault.LiveFault.TheVariants as live
 use Rattle.bs_host.specs.File.{pieces_of}
+use Rattle.bs_host.specs.LiveFaults.{HasLiveCause}
 use Rattle.bs_host.specs.Live.{live_lines_of}
 use Rattle.bs_host.specs.inner.Live.{HasAnswered, IsServing}
 use Rattle.bs_host.specs.inner.LiveFaults.{LeavesLines}
+use Rattle.bs_host.proofs.Causes.{of_reader, of_writer}
 use Rattle.bs_host.proofs.LiveBytes.{all_consumed, consumes_both, consumes_none, if_some, serving_begins, serving_holds, serving_reads}
 use Rattle.bs_host.proofs.LiveRefusals.{of_lines}
 use Rattle.bs_host.proofs.LiveStops.{read_leaves, serving_first}
@@ -161,3 +163,30 @@ returns-clause-left g c =
     of_lines blocks version plan (g.R.Read.remaining c.args.input.now) (g.R.Read.remaining c.loop.input) pending bytes first now live.Memory before
     (λ more.
     serving_first blocks version plan (pending ++ bytes) c.loop.flow.pending.items more first now c.loop.flow.written c.loop.host serving)
+
+pub returns-in_err-answer_ready-clause-failed : goal.returns-in_err-answer_ready-clause-failed
+returns-in_err-answer_ready-clause-failed g c =
+    let read = g.C.ReadCalls.has_failed c.loop.input in
+    let written = g.C.WriteCalls.has_failed c.answer_ready.new.output in
+    let fault = c.in_err-answer_ready.field-0.0 in
+    let cause : HasLiveCause read written fault = of_writer read written fault c.in_err-answer_ready.ensures.failed in
+    let same : c.from_residual-in_err-answer_ready.result ≡ Err c.in_err-answer_ready.field-0.0 = search rules in
+    rw same cause
+
+pub returns-in_err-read_more-clause-failed : goal.returns-in_err-read_more-clause-failed
+returns-in_err-read_more-clause-failed g c =
+    let read = g.C.ReadCalls.has_failed c.read_more.new.input in
+    let written = g.C.WriteCalls.has_failed c.answer_ready.new.output in
+    let fault = c.in_err-read_more.field-0.0 in
+    let cause : HasLiveCause read written fault = of_reader read written fault c.in_err-read_more.ensures.device in
+    let same : c.from_residual-in_err-read_more.result ≡ Err c.in_err-read_more.field-0.0 = search rules in
+    rw same cause
+
+pub returns-in_err-end_live-clause-failed : goal.returns-in_err-end_live-clause-failed
+returns-in_err-end_live-clause-failed g c =
+    let read = g.C.ReadCalls.has_failed c.read_more.new.input in
+    let written = g.C.WriteCalls.has_failed c.end_live.new.output in
+    let fault = c.in_err-end_live.field-0.0 in
+    let cause : HasLiveCause read written fault = of_writer read written fault c.in_err-end_live.ensures.failed in
+    let same : c.from_residual-in_err-end_live.result ≡ Err c.in_err-end_live.field-0.0 = search rules in
+    rw same cause

@@ -24,14 +24,14 @@ returns-in_err-push_all-clause-left g c =
     let first = g.W.Write.contents c.args.output.now in
     let text = text_of c.args.sections.now c.args.strays.now in
     let cut : IsCutOff c.in_err-push_all.field-0.0.written first (g.W.Write.contents c.push_all.new.output) text =
-    c.in_err-push_all.ensures first text (start g (goal.at.returns-in_err-push_all-clause-left g c).After-push_all) in
+    c.in_err-push_all.ensures.sent first text (start g (goal.at.returns-in_err-push_all-clause-left g c).After-push_all) in
     search rules
 
 pub returns-in_err-write_out-clause-left : goal.returns-in_err-write_out-clause-left
 returns-in_err-write_out-clause-left g c =
     let first = g.W.Write.contents c.args.output.now in
     let text = text_of c.args.sections.now c.args.strays.now in
-    let all = c.in_ok-push_all.ensures first text (start g (goal.at.returns-in_err-write_out-clause-left g c).After-push_all) in
+    let all = c.in_ok-push_all.ensures.sent first text (start g (goal.at.returns-in_err-write_out-clause-left g c).After-push_all) in
     let cut : IsCutOff c.in_err-write_out.field-0.0.written first (g.W.Write.contents c.write_out.new.output) text =
     c.in_err-write_out.ensures.sent first text [] all in
     search rules
@@ -40,6 +40,6 @@ pub returns-clause-written : goal.returns-clause-written
 returns-clause-written g c =
     let first = g.W.Write.contents c.args.output.now in
     let text = text_of c.args.sections.now c.args.strays.now in
-    let all = c.in_ok-push_all.ensures first text (start g (goal.at.returns-clause-written g c).After-push_all) in
+    let all = c.in_ok-push_all.ensures.sent first text (start g (goal.at.returns-clause-written g c).After-push_all) in
     arrived first (g.W.Write.contents c.write_out.new.output) c.write_out.new.self text _
     (c.in_ok-write_out.ensures.sent first text [] all) c.in_ok-write_out.ensures.empty

@@ -7,7 +7,7 @@ returns-in-Err-clause-sent g c =
     λ first text left way.
     let fewer = rw c.as_slice.ensures at c.in-Err.ensures.fewer in
     let front = rw c.as_slice.ensures at c.in-Err.ensures.front in
-    cut_off first (g.W.Write.contents c.args.output.now) (g.W.Write.contents c.write_all_of.new.output) c.args.self.now text left
+    cut_off first (g.W.Write.contents c.args.output.now) (g.W.Write.contents c.write_all_by.new.output) c.args.self.now text left
     c.in-Err.fault.written c.saturating_add.result way fewer front c.saturating_add.ensures
 
 pub returns-clause-sent : goal.returns-clause-sent
@@ -15,5 +15,5 @@ returns-clause-sent g c =
     λ first text left way.
     let all = rw c.as_slice.ensures at c.in_default.ensures.ok in
     let counts = rw c.as_slice-2.ensures at c.saturating_add-self.ensures in
-    sent_whole first (g.W.Write.contents c.args.output.now) (g.W.Write.contents c.write_all_of.new.output) c.args.self.now _ text left
+    sent_whole first (g.W.Write.contents c.args.output.now) (g.W.Write.contents c.write_all_by.new.output) c.args.self.now _ text left
     way all c.clear.ensures refl counts

@@ -4,15 +4,15 @@ use Rattle.bs_transcript.specs.Written.{IsCutOff}
 use Rattle.bs_transcript.proofs.Sent.{arrived, on_its_way}
 use Rattle.bs_transcript.proofs.writing.Writing.write_all.Goals as goal
 
-pub returns-in_err-write_out : goal.returns-in_err-write_out
-returns-in_err-write_out g c =
+pub returns-in_err-write_out-clause-sent : goal.returns-in_err-write_out-clause-sent
+returns-in_err-write_out-clause-sent g c =
     λ first text way.
     let cut : IsCutOff c.in_err-write_out.field-0.0.written first (g.W.Write.contents c.write_out.new.output) text =
     c.in_err-write_out.ensures.sent first text (drop c.shares.self.at.number g.L.Lines.lines) (c.shares.invariant first text way) in
     search rules
 
-pub returns : goal.returns
-returns g c =
+pub returns-clause-sent : goal.returns-clause-sent
+returns-clause-sent g c =
     λ first text way.
     let lines = g.L.Lines.lines in
     let now = g.W.Write.contents c.write_out.new.output in

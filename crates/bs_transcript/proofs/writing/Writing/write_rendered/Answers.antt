@@ -24,7 +24,7 @@ returns-in_err-write_text-clause-sent g c =
     let sent = on_its_way first (g.W.Write.contents c.write_out.new.output) c.write_out.new.self text (drop at lines) (some ++ drop it.to lines) (lines_cut lines at it.from it.to same later)
     (c.in_ok-write_out.ensures.sent first text (drop at lines) way) in
     let cut : IsCutOff c.in_err-write_text.field-0.0.written first (g.W.Write.contents c.write_text.new.output) text =
-    c.in_err-write_text.ensures first text some (drop it.to lines) is sent in
+    c.in_err-write_text.ensures.sent first text some (drop it.to lines) is sent in
     search rules
 
 pub returns-clause-sent : goal.returns-clause-sent
@@ -41,4 +41,4 @@ returns-clause-sent g c =
     (c.in_ok-write_out.ensures.sent first text (drop at lines) way) in
     let end : c.skip.new.self.number ≡ it.to = c.skip.ensures.exact (omega (arith, same, later)) it.inside in
     on_its_way first (g.W.Write.contents c.write_text.new.output) c.write_text.new.self text (drop it.to lines) (drop c.skip.new.self.number lines) (ap (λ n. drop n lines) (sym end))
-    (c.in_ok-write_text.ensures first text some (drop it.to lines) is sent)
+    (c.in_ok-write_text.ensures.sent first text some (drop it.to lines) is sent)

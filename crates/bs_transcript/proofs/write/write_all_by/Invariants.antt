@@ -1,6 +1,6 @@
 use Rattle.std.proofs.Common.{◌≤◌, ◌-◌, length, take}
 use Rattle.std.specs.Io.KnownBytes.{Appends}
-use Rattle.bs_transcript.proofs.write.write_all_of.Given as goal
+use Rattle.bs_transcript.proofs.write.write_all_by.Given as goal
 
 -- the writer took the bytes before `written`
 abbrev pub invariant-writes : goal.invariant-writes

@@ -1,7 +1,7 @@
 use Rattle.std.proofs.Common.{◌+◌, ◌-◌, vec_len}
 use Rattle.std.specs.Io.KnownBytes.{Consumes}
 use Rattle.bs_host.specs.declared.limits.TheConstants.{MOST_FILE_BYTES}
-use Rattle.bs_host.proofs.read.read_input.Given as goal
+use Rattle.bs_host.proofs.read.read_input_by.Given as goal
 
 -- the bytes read are those that the reader gave
 abbrev pub invariant-reads : goal.invariant-reads

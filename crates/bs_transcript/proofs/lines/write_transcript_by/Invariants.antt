@@ -1,5 +1,5 @@
 use Rattle.bs_transcript.specs.inner.Parts.{all_lines_of}
-use Rattle.bs_transcript.proofs.lines.write_transcript.Given as goal
+use Rattle.bs_transcript.proofs.lines.write_transcript_by.Given as goal
 
 -- the lines are those of this call
 abbrev pub ghosts-write_together : goal.ghosts-write_together

@@ -1,15 +1,16 @@
-use Rattle.std.proofs.Common.{◌≡◌, None, refl, subst, arith, rules}
+use Rattle.std.proofs.Common.{◌≡◌, None, Ok, refl, subst, arith, rules}
 use Rattle.std.specs.Prelude.{option_copied}
 use Rattle.std.specs.Io.KnownBytes.{Appends}
-use Rattle.bs_transcript.specs.Written.{Leaves as LeavesOfText}
-use Rattle.bs_host.specs.Faults.{IsFault, Leaves, fault_of_writing, refusal_of}
+use Rattle.bs_transcript.specs.Written.{HasCause as HasTextCause, Leaves as LeavesOfText}
+use Rattle.bs_host.specs.Faults.{HasCause, IsFault, Leaves, fault_of_run, fault_of_writing, refusal_of, refusal_of_plan}
 use Rattle.bs_host.specs.inner.File.{pieces_after}
 use Rattle.bs_host.specs.Hosted.{Hosts}
 use Rattle.bs_host.specs.Transcript.{transcript_of}
 use Rattle.bs_host.specs.inner.Transcript.{core_text_of}
+use Rattle.bs_host.proofs.Causes.{refused_has_cause, run_has_cause, writing_has_cause}
 use Rattle.bs_host.proofs.FileTexts.{acts_accepted, fresh_core, hosts_of_run, is_served, opened, read_refused, refused_is_fault, refused_leaves, text_of_run, writing_is_fault, writing_leaves}
-use Rattle.bs_host.proofs.serving.serve.Goals as goal
-use Rattle.bs_host.proofs.serving.serve.Goals.{After-write}
+use Rattle.bs_host.proofs.serving.serve_by.Goals as goal
+use Rattle.bs_host.proofs.serving.serve_by.Goals.{After-write}
 
 pub returns-in_err-plan-clause-fault : goal.returns-in_err-plan-clause-fault
 returns-in_err-plan-clause-fault g c =
@@ -101,3 +102,30 @@ returns-clause-written g c =
     let new = g.W.Write.contents c.write.new.output in
     let given : Appends old new (core_text_of c.in_ok-core-2.core c.in_ok-core.field-0-1.strays.items) = c.in_ok-write.ensures.written in
     subst (Appends old new) is given
+
+pub returns-in_err-plan-clause-failed : goal.returns-in_err-plan-clause-failed
+returns-in_err-plan-clause-failed g c =
+    let failed = g.C.WriteCalls.has_failed c.args.output.now in
+    let cause : HasCause failed c.in_err-plan.field-0.0 =
+    refused_has_cause failed (refusal_of c.args.blocks c.args.input.now) c.in_err-plan.field-0.0 (c.in_err-plan.ensures.fault c.args.blocks) in
+    search rules
+
+pub returns-in_err-core-clause-failed : goal.returns-in_err-core-clause-failed
+returns-in_err-core-clause-failed g c =
+    let failed = g.C.WriteCalls.has_failed c.args.output.now in
+    let cause : HasCause failed c.in_err-core.field-0.0 =
+    refused_has_cause failed (refusal_of_plan c.args.blocks (Ok c.in_ok-plan.plan)) c.in_err-core.field-0.0 c.in_err-core.ensures.fault in
+    search rules
+
+pub returns-in_err-core-2-clause-failed : goal.returns-in_err-core-2-clause-failed
+returns-in_err-core-2-clause-failed g c =
+    let failed = g.C.WriteCalls.has_failed c.args.output.now in
+    let cause : HasCause failed (fault_of_run c.in_err-core-2.field-0.0) = run_has_cause failed c.in_err-core-2.field-0.0 in
+    search rules
+
+pub returns-in_err-write-clause-failed : goal.returns-in_err-write-clause-failed
+returns-in_err-write-clause-failed g c =
+    let failed = g.C.WriteCalls.has_failed c.write.new.output in
+    let given : HasTextCause failed c.in_err-write.field-0.0 = c.in_err-write.ensures.failed in
+    let cause : HasCause failed (fault_of_writing c.in_err-write.field-0.0) = writing_has_cause failed c.in_err-write.field-0.0 given in
+    search rules

@@ -2,14 +2,17 @@ use Rattle.std.proofs.Common.{◌≡◌, None, [], ◌++◌, refl, rules}
 use Rattle.std.specs.List.{position}
 use Rattle.std.specs.Prelude.{IfSome}
 use Rattle.std.specs.Io.KnownBytes.{Appends}
+use Rattle.bs_json.specs.PlanLine.{plan_line_of}
 use Rattle.bs_host.specs.File.{pieces_of}
 use Rattle.bs_host.specs.Live.{live_lines_of}
+use Rattle.bs_host.specs.Faults.{refusal_of_plan}
 use Rattle.bs_host.specs.inner.Live.{IsCutFirst}
-use Rattle.bs_host.specs.LiveFaults.{IsLiveFault, LeavesLive, live_refusal_of}
+use Rattle.bs_host.specs.LiveFaults.{HasLiveCause, IsLiveFault, LeavesLive, live_refusal_of}
 use Rattle.bs_host.specs.inner.LiveFaults.{LeavesLines}
+use Rattle.bs_host.proofs.Causes.{live_refusal_has_cause, of_reader, of_writer}
 use Rattle.bs_host.proofs.CutPieces.{is_feed}
 use Rattle.bs_host.proofs.LiveRefusals.{any_known, cut_behind, cut_plans, only_behind, only_plans, opened_kind, opened_left, opened_served, opened_written, refused_kind, served_not}
-use Rattle.bs_host.proofs.live.serve_live.Goals as goal
+use Rattle.bs_host.proofs.live.serve_live_by.Goals as goal
 
 pub returns-in-Some-clause-written : goal.returns-in-Some-clause-written
 returns-in-Some-clause-written g c =
@@ -181,3 +184,39 @@ returns-clause-written g c =
     opened_written c.args.blocks file left bytes bytes c.in_ok-bytes.ensures.bytes plans plan opened.is_plan opened.room (λ more. [])
     (only_behind left bytes plan feed end opened.is_plan) old new
     (any_known (λ more. Appends old new (live_lines_of c.args.blocks plan.version plan.rows [])) left (λ more. ends c.args.blocks plan.version plan.rows opened.is))
+
+pub returns-in_err-bytes-clause-failed : goal.returns-in_err-bytes-clause-failed
+returns-in_err-bytes-clause-failed g c =
+    let read = g.C.ReadCalls.has_failed c.read_first.new.input in
+    let written = g.C.WriteCalls.has_failed c.args.output.now in
+    let fault = c.in_err-bytes.field-0.0 in
+    let cause : HasLiveCause read written fault = of_reader read written fault c.in_err-bytes.ensures.device in
+    search rules
+
+pub returns-in_err-host-in-Some-clause-failed : goal.returns-in_err-host-in-Some-clause-failed
+returns-in_err-host-in-Some-clause-failed g c =
+    let read = g.C.ReadCalls.has_failed c.read_first.new.input in
+    let written = g.C.WriteCalls.has_failed c.args.output.now in
+    let fault = c.in_err-host-in-Some.field-0.0 in
+    let cause : HasLiveCause read written fault =
+    live_refusal_has_cause read written (refusal_of_plan c.args.blocks (plan_line_of c.in-Some.first.now)) fault c.in_err-host-in-Some.ensures.fault in
+    search rules
+
+pub returns-in_err-host-in-None-clause-failed : goal.returns-in_err-host-in-None-clause-failed
+returns-in_err-host-in-None-clause-failed g c =
+    let read = g.C.ReadCalls.has_failed c.read_first.new.input in
+    let written = g.C.WriteCalls.has_failed c.args.output.now in
+    let bytes = c.in_ok-bytes.bytes.items in
+    let fault = c.in_err-host-in-None.field-0.0 in
+    let refused = rw c.deref-in-None.ensures.value at c.in_err-host-in-None.ensures.fault in
+    let cause : HasLiveCause read written fault =
+    live_refusal_has_cause read written (refusal_of_plan c.args.blocks (plan_line_of bytes)) fault refused in
+    search rules
+
+pub returns-in_err-end_plan-in-None-clause-failed : goal.returns-in_err-end_plan-in-None-clause-failed
+returns-in_err-end_plan-in-None-clause-failed g c =
+    let read = g.C.ReadCalls.has_failed c.read_first.new.input in
+    let written = g.C.WriteCalls.has_failed c.end_plan.new.output in
+    let fault = c.in_err-end_plan-in-None.field-0.0 in
+    let cause : HasLiveCause read written fault = of_writer read written fault c.in_err-end_plan-in-None.ensures.failed in
+    search rules
