@@ -23,11 +23,22 @@ const VERSION: &str = "1.1.0";
 const HELP_END: &str = "\
 Without a word it serves the standard input, as 'arena serve -' does, and waits for its end.
 
+If it says 'cannot read the file' or 'plan P1' to 'plan P4', or refuses lines of a file, then
+'arena-check FILE' says why, in which line, and how many --blocks to give (checker/arena-check
+of the repository):
+  P1  the first line is no plan
+  P2  a row of the plan is wrong, or a name comes twice
+  P3  more than 64 games at once
+  P4  more blocks are needed: six for each game of a quota up to 1835007
+
 Example: arena serve examples/first_file.jsonl";
 
 const SERVE_ABOUT: &str = "Plays the games of a command file and writes their transcript";
 
-const SERVE_END: &str = "Example: arena serve games.jsonl --blocks 168 > games.transcript";
+const SERVE_END: &str = "\
+'arena-check FILE' says what is refused in a file, and how many --blocks it needs.
+
+Example: arena serve games.jsonl --blocks 168 > games.transcript";
 
 const ALONE_ABOUT: &str = "Plays one game of a command file by its own lines alone, on one worker";
 
