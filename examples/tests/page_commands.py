@@ -11,6 +11,7 @@ from collections.abc import Iterator
 from dataclasses import dataclass
 from pathlib import Path
 
+ROOT = Path(__file__).resolve().parent.parent.parent
 LONGEST_BLOCK = 600  # seconds
 
 
@@ -59,6 +60,18 @@ def section_of(text: str, heading: str) -> str:
 def ways_of(text: str) -> list[int]:
     """The numbers of the items that have blocks; 0 alone if there is no list."""
     return sorted({block.item for block in blocks_of(text)} - {0}) or [0]
+
+
+def copy_of_tree(folder: Path, program: Path) -> Path:
+    """Copies the files that git tracks, and the program as the built one."""
+    words = ["git", "-C", ROOT, "ls-files", "-z"]
+    tracked = subprocess.run(words, capture_output=True, text=True, check=True).stdout
+    for name in filter(None, tracked.split("\0")):
+        (folder / name).parent.mkdir(parents=True, exist_ok=True)
+        shutil.copy2(ROOT / name, folder / name, follow_symlinks=False)
+    (folder / "crates/arena/out").mkdir(parents=True)
+    shutil.copy(program, folder / "crates/arena/out/arena")
+    return folder
 
 
 def run_page(text: str, tree: Path, way: int) -> str:
