@@ -3,6 +3,7 @@
 from __future__ import annotations
 
 import json
+import select
 import socket
 import subprocess
 import sys
@@ -12,7 +13,7 @@ from collections.abc import Iterable, Iterator, Sequence
 from contextlib import contextmanager
 from dataclasses import dataclass
 from pathlib import Path
-from typing import Any
+from typing import IO, Any
 
 HERE = Path(__file__).resolve().parent
 LADDER = HERE.parent / "ladder"
@@ -90,6 +91,13 @@ def start_play(config: Path, program: Path, *words: str) -> subprocess.Popen[str
         stderr=subprocess.PIPE,
         text=True,
     )
+
+
+def first_line(stream: IO[str] | None) -> str:
+    """The first line that a program writes; fails if none comes."""
+    assert stream is not None
+    assert select.select([stream], [], [], START_SECONDS)[0], "the program wrote nothing"
+    return stream.readline()
 
 
 def run_ladder(*words: str | Path) -> subprocess.CompletedProcess[str]:

@@ -17,7 +17,7 @@ from pathlib import Path
 from typing import Any
 
 import pytest
-from served import Served, board_with, run_ladder, start_play, write_config
+from served import Served, board_with, first_line, run_ladder, start_play, write_config
 from testing import chromium  # of viewer/
 
 from arena_client import PROGRAM
@@ -358,8 +358,7 @@ def playing(program: Path, config: Path) -> Iterator[tuple[subprocess.Popen[str]
     """Plays a ladder with a page within the context, whose value has the page's address."""
     process = start_play(config, program, "--page", "0")
     try:
-        assert process.stderr is not None
-        line = process.stderr.readline()
+        line = first_line(process.stderr)
         (address,) = re.findall(r"\Aladder: the page is (http://127\.0\.0\.1:\d+/)\n\Z", line)
         yield process, address
     finally:

@@ -12,7 +12,7 @@ from typing import Any
 
 import aiohttp
 import pytest
-from served import HERE
+from served import HERE, first_line
 from synthetic import fill_quickly
 
 from arena_client import PROGRAM
@@ -86,8 +86,7 @@ def test_page_is_up_before_its_standings_and_bad_requests_are_a_line(tmp_path: P
         env={"PYTHONPATH": f"{HERE.parent / 'src'}", "PYTHONDONTWRITEBYTECODE": "1"},
     )
     try:
-        assert process.stdout is not None
-        line = process.stdout.readline()
+        line = first_line(process.stdout)
         port = int(line.rstrip("/\n").rpartition(":")[2])
         for _ in range(BAD):
             with socket.create_connection(("127.0.0.1", port)) as bad:

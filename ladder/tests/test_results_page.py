@@ -16,7 +16,7 @@ from pathlib import Path
 from typing import Any
 
 import pytest
-from served import LADDER, Served, free_port, run_ladder, start_play, write_config
+from served import LADDER, Served, first_line, free_port, run_ladder, start_play, write_config
 from testing import chromium  # of viewer/
 
 from arena_ladder import transcripts
@@ -92,8 +92,7 @@ def page_of(folder: Path, program: Path) -> Iterator[tuple[subprocess.Popen[str]
     words: list[str | Path] = [LADDER, "page", folder, "0", "--program", program]
     serving = subprocess.Popen(words, stdout=subprocess.PIPE, stderr=subprocess.PIPE, text=True)
     try:
-        assert serving.stdout is not None
-        line = serving.stdout.readline()
+        line = first_line(serving.stdout)
         (address,) = re.findall(r"\Aladder: the page is (http://127\.0\.0\.1:\d+/)\n\Z", line)
         yield serving, address
     finally:
@@ -103,7 +102,7 @@ def page_of(folder: Path, program: Path) -> Iterator[tuple[subprocess.Popen[str]
 
 def games_at(address: str, at: str) -> int:
     """The number of games in an answer that is not kept from another `at`."""
-    with urllib.request.urlopen(f"{address}games.json?at={at}") as answer:
+    with urllib.request.urlopen(f"{address}games.json?at={at}", timeout=60) as answer:
         return len(json.load(answer)["games"])
 
 

@@ -11,12 +11,14 @@ import sqlite3
 import zipfile
 from collections.abc import Callable
 from contextlib import closing
+from functools import lru_cache
 from pathlib import Path
 
 from arena_ladder.game_files import command_file
 
 GAMES = 1000  # in a pack
 LEVEL = 6  # of compression
+MOST_OPEN = 4  # packs of which the list of games is kept
 
 
 def pack_file(folder: Path, number: int) -> Path:
@@ -36,12 +38,17 @@ def commands_of(folder: Path, name: str) -> bytes:
         if not path.exists():
             raise
         try:
-            with zipfile.ZipFile(path) as pack:
-                return pack.read(f"{name}.jsonl")
+            return opened(path, path.stat().st_mtime_ns).read(f"{name}.jsonl")
         except KeyError:
             raise fault from None
         except (zipfile.BadZipFile, NotImplementedError, EOFError) as damage:
             raise OSError(0, f"the pack is damaged: {damage}", str(path)) from None
+
+
+@lru_cache(MOST_OPEN)
+def opened(path: Path, _: int) -> zipfile.ZipFile:
+    """A pack that stays open, with the time of its last change; reading its list takes long."""
+    return zipfile.ZipFile(path)
 
 
 def number_of(folder: Path, name: str) -> int | None:
