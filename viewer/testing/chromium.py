@@ -9,6 +9,9 @@ import tempfile
 import time
 import urllib.error
 import urllib.request
+from collections.abc import Sequence
+from pathlib import Path
+from typing import Any
 
 PACKAGES = {
     "chromium": ["chromium", "fonts-dejavu-core"],
@@ -33,7 +36,7 @@ class NotToBeHad(Exception):
     """The browser is not on the machine, and Debian's packages can't be reached."""
 
 
-def install():
+def install() -> None:
     """Installs the missing packages; raises NotToBeHad if that fails."""
     missing = [
         package
@@ -62,16 +65,17 @@ def install():
             )
 
 
-def start_driver():
+def start_driver() -> tuple[subprocess.Popen[str], int]:
     """Starts the driver. Returns it with the port that it chose, which is in a line of its output.
     It ends at once if another program took that port meanwhile; then it is started again."""
     for _ in range(DRIVER_STARTS):
         driver = subprocess.Popen(
-            [shutil.which("chromedriver"), "--port=0"],
+            [shutil.which("chromedriver") or "chromedriver", "--port=0"],
             stdout=subprocess.PIPE,
             stderr=subprocess.DEVNULL,
             text=True,
         )
+        assert driver.stdout
         for line in driver.stdout:
             if "started successfully on port" in line:
                 return driver, int(line.split("port")[1].strip(" .\n"))
@@ -83,7 +87,7 @@ def start_driver():
 class Browser:
     """A window of Chromium and its driver. It resolves no host name but 127.0.0.1."""
 
-    def __init__(self):
+    def __init__(self) -> None:
         self.profile = tempfile.mkdtemp(prefix="viewer-chromium-")
         self.driver, port = start_driver()
         self.root = f"http://127.0.0.1:{port}"
@@ -96,7 +100,7 @@ class Browser:
             self.close()
             raise
 
-    def wishes(self):
+    def wishes(self) -> dict[str, Any]:
         words = [
             "--headless=new",
             "--no-sandbox",
@@ -112,7 +116,7 @@ class Browser:
             "goog:loggingPrefs": {"browser": "SEVERE"},
         }
 
-    def call(self, method, path, body=None):
+    def call(self, method: str, path: str, body: Any = None) -> Any:
         """The driver's answer to a request. Every path but /session is below the session."""
         address = self.root + (path if path == "/session" else f"/session/{self.session}{path}")
         request = urllib.request.Request(
@@ -125,26 +129,27 @@ class Browser:
             value = json.load(fault)["value"]
             raise RuntimeError(f"{method} {path}: {value['error']}: {value['message']}") from None
 
-    def go(self, address):
+    def go(self, address: str) -> None:
         """Loads a page, even if its address differs from the old one only after the `#`."""
         self.call("POST", "/url", {"url": "about:blank"})
         self.call("POST", "/url", {"url": address})
 
-    def run(self, script, *arguments):
+    def run(self, script: str, *arguments: Any) -> Any:
         """Runs the body of a function in the page; returns its value. A promise is awaited."""
         return self.call("POST", "/execute/sync", {"script": script, "args": list(arguments)})
 
-    def element(self, selector):
-        return self.call("POST", "/element", {"using": "css selector", "value": selector})[ELEMENT]
+    def element(self, selector: str) -> str:
+        found = self.call("POST", "/element", {"using": "css selector", "value": selector})
+        return str(found[ELEMENT])
 
-    def click(self, selector):
+    def click(self, selector: str) -> None:
         self.call("POST", f"/element/{self.element(selector)}/click", {})
 
-    def type_into(self, selector, text):
+    def type_into(self, selector: str, text: str) -> None:
         """Types into an element. For a file input the text is the paths of the files."""
         self.call("POST", f"/element/{self.element(selector)}/value", {"text": text})
 
-    def press(self, *keys):
+    def press(self, *keys: Sequence[str]) -> None:
         """Presses keys one after the other; a tuple of keys is pressed together."""
         actions = []
         for key in keys:
@@ -156,7 +161,7 @@ class Browser:
             "POST", "/actions", {"actions": [{"type": "key", "id": "keyboard", "actions": actions}]}
         )
 
-    def drop(self, path):
+    def drop(self, path: Path) -> None:
         """Drops a file on the middle of the page."""
         data = {"items": [], "files": [str(path)], "dragOperationsMask": 1}
         for event in ("dragEnter", "dragOver", "drop"):
@@ -169,7 +174,7 @@ class Browser:
                 },
             )
 
-    def resize(self, width, height):
+    def resize(self, width: int, height: int) -> None:
         """Gives the page itself, without the window around it, that size."""
         self.call(
             "POST",
@@ -185,22 +190,22 @@ class Browser:
             },
         )
 
-    def restore_size(self):
+    def restore_size(self) -> None:
         self.call(
             "POST",
             "/goog/cdp/execute",
             {"cmd": "Emulation.clearDeviceMetricsOverride", "params": {}},
         )
 
-    def picture(self, selector):
+    def picture(self, selector: str) -> bytes:
         """The bytes of a PNG of an element."""
         return base64.b64decode(self.call("GET", f"/element/{self.element(selector)}/screenshot"))
 
-    def complaints(self):
+    def complaints(self) -> list[str]:
         """The errors in the browser's console since the last call."""
         return [entry["message"] for entry in self.call("POST", "/se/log", {"type": "browser"})]
 
-    def wait(self, script, *arguments, seconds=20):
+    def wait(self, script: str, *arguments: Any, seconds: float = 20) -> Any:
         """Waits until a script returns a true value, and returns it."""
         ends = time.monotonic() + seconds
         while True:
@@ -211,10 +216,11 @@ class Browser:
                 raise AssertionError(f"not so within {seconds} s: {script} {arguments}")
             time.sleep(0.005)
 
-    def close(self):
+    def close(self) -> None:
         if self.session is not None:
             self.call("DELETE", "")
         self.driver.terminate()
         self.driver.wait()
-        self.driver.stdout.close()
+        if self.driver.stdout:
+            self.driver.stdout.close()
         shutil.rmtree(self.profile, ignore_errors=True)
