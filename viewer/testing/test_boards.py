@@ -171,26 +171,20 @@ def test_each_turn_of_each_game_is_drawn(page: Page, browser: Browser, path: Pat
             step_through(page, browser, boards)
 
 
+def boards_of_cases() -> list[dict[str, Any]]:
+    """All boards of all cases."""
+    rounds = [each for path in CASES for game in read(path)[0] for each in game.rounds]
+    return [board for boards in rounds for board in boards]
+
+
 def test_the_cases_hold_every_cause_and_eight_snakes() -> None:
-    boards = [
-        board
-        for path in CASES
-        for game in read(path)[0]
-        for boards in game.rounds
-        for board in boards
-    ]
+    boards = boards_of_cases()
     assert {snake["cause"] for board in boards for snake in board["snakes"]} == {None, *FATES}
     assert max(len(board["snakes"]) for board in boards) == 8
 
 
 def test_the_cases_hold_bodies_that_cross_each_edge() -> None:
-    boards = [
-        board
-        for path in CASES
-        for game in read(path)[0]
-        for boards in game.rounds
-        for board in boards
-    ]
+    boards = boards_of_cases()
     bodies = [
         (snake["body"], board)
         for board in boards
