@@ -4,9 +4,12 @@ They are in examples/: NAME.jsonl, NAME.transcript, and a line in examples/READM
 purpose of NAME. One more case is where the gate expects the program's input and output:
 crates/arena/stdin with crates/arena/stdout.
 """
+from __future__ import annotations
+
 import json
 import re
 from collections import Counter
+from collections.abc import Iterator
 from dataclasses import dataclass
 from pathlib import Path
 
@@ -45,26 +48,26 @@ class Case:
     transcript: Path
 
     @property
-    def blocks(self):
+    def blocks(self) -> int:
         """The number of blocks for the transcript, which depends on it where games come and go."""
         return BLOCKS.get(self.name, USUAL_BLOCKS)
 
     @property
-    def version(self):
+    def version(self) -> int:
         """The version of the format."""
-        return json.loads(self.file.read_text().splitlines()[0]).get("version", 1)
+        return int(json.loads(self.file.read_text().splitlines()[0]).get("version", 1))
 
     @property
-    def has_stays(self):
+    def has_stays(self) -> bool:
         """Whether games can come and go."""
         return self.version in WITH_STAYS
 
-    def words(self, workers):
+    def words(self, workers: int) -> list[str]:
         """The command line that serves the case."""
         return ["serve", str(self.file), "--workers", str(workers), "--blocks", str(self.blocks)]
 
     @property
-    def live_words(self):
+    def live_words(self) -> list[str]:
         """The command line of `arena live` for the case."""
         return ["live", "--blocks", str(self.blocks)]
 
@@ -73,11 +76,11 @@ class Case:
 class Alone:
     """One stay of a case: the command line that plays it alone, and its output."""
 
-    words: list
+    words: list[str]
     section: bytes
 
 
-def cases():
+def cases() -> list[Case]:
     """All cases, sorted by name."""
     found = [
         Case(file.stem, file, file.with_suffix(".transcript")) for file in FOLDER.glob("*.jsonl")
@@ -89,16 +92,17 @@ def cases():
     )
 
 
-def purposes():
+def purposes() -> dict[str, str]:
     """The purpose of each case, from the section Cases of examples/README.md."""
     part = (FOLDER / "README.md").read_text().split("\n## Cases\n")[1].split("\n## ")[0]
     lines = [PURPOSE.match(line) for line in part.splitlines() if line.startswith("- ")]
     return {line[1]: line[2] for line in lines if line}
 
 
-def sections(transcript):
+def sections(transcript: bytes) -> list[tuple[str, bytes]]:
     """The sections of a transcript: pairs of a game's name and the lines of one stay."""
-    found, open_section = [], b""
+    found: list[tuple[str, bytes]] = []
+    open_section = b""
     for line in transcript.splitlines(True):
         reply = json.loads(line)
         open_section += line
@@ -108,10 +112,11 @@ def sections(transcript):
     return found
 
 
-def lines_by_game(text):
+def lines_by_game(text: bytes) -> tuple[dict[str, list[list[bytes]]], list[bytes]]:
     """The lines of each game by its name, stay after stay, and the stray lines. The result is the
     same for a transcript and for the output of `arena live` for the file."""
-    found, strays = {}, []
+    found: dict[str, list[list[bytes]]] = {}
+    strays: list[bytes] = []
     for line in text.splitlines(True):
         reply = json.loads(line)
         if "line" in reply:
@@ -124,9 +129,9 @@ def lines_by_game(text):
     return found, strays
 
 
-def stays(case):
+def stays(case: Case) -> Iterator[Alone]:
     """Each stay of a case, played alone."""
-    counts = Counter()
+    counts: Counter[str] = Counter()
     for name, section in sections(case.transcript.read_bytes()):
         counts[name] += 1
         words = [
@@ -142,13 +147,13 @@ def stays(case):
         yield Alone(words, section)
 
 
-def played_alone(case):
+def played_alone(case: Case) -> list[Alone]:
     """The stays that a slow test plays alone: the first, or all if games can come and go."""
     all_stays = list(stays(case))
     return all_stays if case.has_stays else all_stays[:1]
 
 
-def long_file(folder):
+def long_file(folder: Path) -> Path:
     """Makes a file whose transcript is written in several pieces, by several threads if there are
     several workers."""
     at = Path(folder) / "long.jsonl"

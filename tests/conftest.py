@@ -25,3 +25,11 @@ def library(request):
     file = request.config.getoption("--library")
     words = ["--library", file.resolve()] if file else []
     library_page.ran(runs.ROOT / "bindings/build", *words)
+
+
+@pytest.fixture
+def rules(library):
+    """The module arena_rules, with the built library."""
+    import arena_rules
+
+    return arena_rules

@@ -1,22 +1,24 @@
 """Installs commands and Python libraries that a tool needs from Debian's packages."""
 import shutil
 import subprocess
+from collections.abc import Callable
+from collections.abc import Sequence
 
 PYTHON = "/usr/bin/python3"
 
 
-def install(command, *packages):
+def install(command: str, *packages: str) -> str | None:
     """Installs the packages if the command is missing. Returns the reason if that fails, else
     None."""
     return install_for(lambda: shutil.which(command) is not None, command, packages)
 
 
-def install_library(module, *packages):
+def install_library(module: str, *packages: str) -> str | None:
     """Installs the packages if Debian's Python has no such library. Returns as `install` does."""
     return install_for(lambda: has_library(module), f"Python's {module}", packages)
 
 
-def has_library(module):
+def has_library(module: str) -> bool:
     """Whether Debian's Python has that library."""
     try:
         ran = subprocess.run([PYTHON, "-c", f"import {module}"], capture_output=True)
@@ -25,7 +27,7 @@ def has_library(module):
     return ran.returncode == 0
 
 
-def install_for(is_there, thing, packages):
+def install_for(is_there: Callable[[], bool], thing: str, packages: Sequence[str]) -> str | None:
     """Installs the packages unless the thing is there."""
     if is_there():
         return None

@@ -4,6 +4,8 @@
 walls and bodies, so that games last; the rest is random.
 """
 import json
+import random
+from typing import Any
 
 STEPS = {"up": (0, 1), "down": (0, -1), "left": (-1, 0), "right": (1, 0)}
 MODES = {
@@ -70,24 +72,27 @@ class Raw(str):
     """A text that is written without quotation marks or escapes."""
 
 
-def chance(rng, percent):
+def chance(rng: random.Random, percent: int) -> bool:
     return rng.random() * 100 < percent
 
 
-def text(rng, value):
+def text(rng: random.Random, value: str) -> str:
     literal = json.dumps(value, ensure_ascii=chance(rng, 20))
     if chance(rng, 2) and value.isascii() and value.isalnum():
         literal = '"' + "".join(f"\\u{ord(it):04x}" for it in value) + '"'
     return literal
 
 
-def written(rng, value, loose):
+def written(rng: random.Random, value: Any, loose: bool) -> str:
     """A value as JSON: compact, or loose, with spaces, members shuffled and one of them twice."""
     if isinstance(value, Raw):
         return value
     if isinstance(value, str):
         return text(rng, value)
-    space = lambda: rng.choice(["", "", "", " ", "\t", "  "]) if loose else ""
+
+    def space() -> str:
+        return rng.choice(["", "", "", " ", "\t", "  "]) if loose else ""
+
     if isinstance(value, dict):
         members = list(value.items())
         if loose:
@@ -104,7 +109,7 @@ def written(rng, value, loose):
     return json.dumps(value)
 
 
-def spoiled(rng, line):
+def spoiled(rng: random.Random, line: bytes) -> bytes:
     """The line with one or a few bytes changed, or made long."""
     at = rng.randrange(len(line))
     kind = rng.randrange(5)
@@ -120,13 +125,14 @@ def spoiled(rng, line):
 
 
 class Game:
-    def __init__(self, rng, name, version):
+    def __init__(self, rng: random.Random, name: str, version: int) -> None:
         self.rng, self.name, self.version = rng, name, version
         self.runs, self.turn = False, 0
-        self.mode, self.width, self.height, self.cells = "", 0, 0, []
-        self.bodies, self.length = {}, 0
+        self.mode, self.width, self.height, self.length = "", 0, 0, 0
+        self.cells: list[tuple[int, int]] = []
+        self.bodies: dict[str, list[tuple[int, int]]] = {}
 
-    def command(self):
+    def command(self) -> dict[str, Any]:
         rng = self.rng
         if not self.runs or chance(rng, 1):
             return self.new()
@@ -136,16 +142,16 @@ class Game:
         if chance(rng, 90):
             return self.move()
         kind = rng.choice(["show", "show", "turn", "turn", "turn", "free", "jump"])
-        members = {"game": self.name, "do": kind}
+        members: dict[str, Any] = {"game": self.name, "do": kind}
         if kind == "turn":
             near = [0, self.turn - 1, self.turn, self.turn + 1, rng.randint(0, self.turn)]
             members["at"] = rng.choice(near)
         return members
 
-    def is_over(self):
+    def is_over(self) -> bool:
         return len(self.bodies) < (1 if self.mode == "solo" else 2)
 
-    def new(self):
+    def new(self) -> dict[str, Any]:
         rng = self.rng
         self.mode = rng.choice(MODES[self.version])
         sides = [3, 3, 4, 5, 5, 7, 11, rng.randint(3, 25)]
@@ -157,7 +163,7 @@ class Game:
         self.length = rng.choice([3, 4, 6, 10, 20])
         self.runs, self.turn = True, 0
         food = rng.sample(cells, rng.randint(0, min(len(cells), rng.choice([0, 1, 3, 8, 30]))))
-        members = {
+        members: dict[str, Any] = {
             **{"game": self.name, "do": "new", "mode": self.mode},
             **{"width": self.width, "height": self.height},
             "snakes": [{"id": id, "x": x, "y": y} for id, (x, y) in zip(ids, starts)],
@@ -174,15 +180,16 @@ class Game:
             members[which] = members[which] + [dict(it) for it in members[which][:1]]
         return members
 
-    def first_hazards(self):
-        rng, members = self.rng, {}
+    def first_hazards(self) -> dict[str, Any]:
+        rng = self.rng
+        members: dict[str, Any] = {}
         if chance(rng, 80):
             members["hazards"] = self.some_cells(MOST_HAZARDS, 1)
         if chance(rng, 80):
             members["hazard_damage"] = rng.choice([0, 1, 1, 5, 14, 14, 33, 50, 99, 100, 101])
         return members
 
-    def some_cells(self, most, strays):
+    def some_cells(self, most: int, strays: int) -> list[dict[str, Any]]:
         """Cells, some of them several times, of which `strays` of a hundred lists have one off the
         board. A few lists are at their limit or beyond it."""
         rng = self.rng
@@ -196,19 +203,19 @@ class Game:
             rng.shuffle(some)
         return [{"x": x, "y": y} for x, y in some]
 
-    def move(self):
+    def move(self) -> dict[str, Any]:
         rng = self.rng
         self.turn += 1
         # Sometimes all snakes that can meet in one cell do.
         body = rng.choice(list(self.bodies.values()) or [[(0, 0)]])
         meeting = self.step(body[0], rng.choice(list(STEPS))) if chance(rng, 15) else None
-        moves = {id: self.go(id, meeting) for id in list(self.bodies)}
-        moves = {id: direction for id, direction in moves.items() if direction}
+        gone = {id: self.go(id, meeting) for id in list(self.bodies)}
+        moves: dict[str, Any] = {id: direction for id, direction in gone.items() if direction}
         if chance(rng, 5):
             moves[rng.choice(IDS)] = rng.choice(["up", "left", "", "sideways", 3, None, ["up"]])
         if chance(rng, 70):
             moves = dict(sorted(moves.items()))
-        members = {"game": self.name, "do": "move", "moves": moves}
+        members: dict[str, Any] = {"game": self.name, "do": "move", "moves": moves}
         if chance(rng, 60):
             count = rng.choice([0, 1, 1, 2, 3, 8, 32, 33])
             drawn = [rng.choice([rng.choice(WORDS), rng.randrange(2**32)]) for _ in range(count)]
@@ -219,13 +226,13 @@ class Game:
             members["food"] = self.some_cells(MOST_GIVEN_FOOD, 30)
         return members
 
-    def step(self, cell, direction):
+    def step(self, cell: tuple[int, int], direction: str) -> tuple[int, int]:
         x, y = (at + by for at, by in zip(cell, STEPS[direction]))
         if self.mode == "wrapped" and self.version > 1:
             return x % self.width, y % self.height
         return x, y
 
-    def go(self, id, meeting):
+    def go(self, id: str, meeting: Any) -> str | None:
         """Moves a snake, mostly to a free cell. Returns its direction, or None for straight on."""
         rng, body = self.rng, self.bodies[id]
         taken = {cell for it in self.bodies.values() for cell in it[:-1]}
@@ -248,17 +255,17 @@ class Game:
         return None if direction == ahead[0] and chance(rng, 30) else direction
 
 
-def plan(rng, version):
+def plan(rng: random.Random, version: int) -> tuple[list[str], dict[str, Any]]:
     names = [f"g{index}" for index in range(rng.choice([1, 1, 2, 3, 6]))]
     if chance(rng, 20):
         names = rng.sample(IDS, len(names))
     rows = [{"game": name, "quota": rng.choice(QUOTAS)} for name in names]
-    members = {"games": rows}
+    members: dict[str, Any] = {"games": rows}
     if version > 1 or chance(rng, 30):
         members["version"] = version
     if chance(rng, 3):
         wrong, count = Raw(rng.choice(WRONG)), rng.choice([10, 11, 64, 65])
-        broken = rng.choice(
+        broken: dict[str, Any] = rng.choice(
             [
                 {"version": wrong},
                 {"games": rows[0]},
@@ -273,11 +280,11 @@ def plan(rng, version):
     return names, members
 
 
-def spoil_member(rng, members):
+def spoil_member(rng: random.Random, members: dict[str, Any]) -> None:
     """Sets a member, or a part of a list or object in it, to a wrong value, or removes it."""
-    where = members
+    where: Any = members
     while True:
-        keys = list(where) if isinstance(where, dict) else list(range(len(where)))
+        keys: list[Any] = list(where) if isinstance(where, dict) else list(range(len(where)))
         if not keys:
             return
         key = rng.choice(keys)
@@ -291,7 +298,7 @@ def spoil_member(rng, members):
         return
 
 
-def command_file(rng, version):
+def command_file(rng: random.Random, version: int) -> tuple[list[str], bytes]:
     """The names in the plan of a file, and its bytes; the file has at most that version."""
     version = rng.choice(VERSIONS[version]) if version > 1 else 1
     names, first = plan(rng, version)

@@ -1,19 +1,21 @@
 """Members of commands at both sides of each limit of docs/FORMATS.md, for `tests/hostile`."""
 
+from typing import Any
+
 G1 = '{"game":"a","no":"G1","seq":1,"why":"command"}'
 G2 = '{"game":"a","no":"G2","seq":1,"why":"none"}'
 E_ACUTE = "é"  # two bytes
 
 
-def snake(id="s", x=1, y=1):
+def snake(id: Any = "s", x: Any = 1, y: Any = 1) -> dict[str, Any]:
     return {"id": id, "x": x, "y": y}
 
 
-def some(count, columns=5):
+def some(count: int, columns: int = 5) -> list[dict[str, Any]]:
     return [{"id": str(at), "x": at % columns, "y": at // columns} for at in range(count)]
 
 
-def cells(width, height):
+def cells(width: int, height: int) -> list[dict[str, Any]]:
     return [{"x": x, "y": y} for y in range(height) for x in range(width)]
 
 
@@ -77,7 +79,7 @@ SETUPS = [
     *[({"mode": mode}, '"mode":"%s"' % mode) for mode in ("standard", "solo", "constrictor")],
     *[({"mode": mode}, None) for mode in ("Solo", "royale", "", 0, None)],
 ]
-NO_MOVES: list = [[], None, "up", 1]
+NO_MOVES: list[Any] = [[], None, "up", 1]
 # Members of a command of a game that does not run, and the refusal: of the game, or of the command.
 OTHERS = [
     *[({"do": do}, G2) for do in ("show", "free", "end")],
@@ -115,9 +117,9 @@ OTHERS = [
         )
     ],
 ]
-CELL: dict = {"x": 2, "y": 1}
+CELL: dict[str, int] = {"x": 2, "y": 1}
 # Values that are no list of cells, and what is no cell of any board.
-NO_CELLS: list = [None, {}, "x", 3, [3], [[1, 1]], [{"x": 1}], [{"y": 1}], [CELL, None]]
+NO_CELLS: list[Any] = [None, {}, "x", 3, [3], [[1, 1]], [{"x": 1}], [{"y": 1}], [CELL, None]]
 NO_CELLS += [[{**CELL, "x": x}] for x in (-1, 25, 256, 2.0, "2", None, 2**64)]
 NO_CELLS += [[{**CELL, "y": y}] for y in (-1, 25, 256, 2.0, "2", None, 2**64)]
 # Members of a `new` of version 5, and a part of the board, as above.

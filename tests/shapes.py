@@ -1,6 +1,11 @@
 """Command files of known shape and any size, which benches/measure.py times and tests serve."""
 import itertools
 import json
+from collections.abc import Callable
+from collections.abc import Iterable
+from collections.abc import Iterator
+from pathlib import Path
+from typing import Any
 
 from program import line
 
@@ -8,17 +13,19 @@ from program import line
 BLOCKS = "512"
 
 
-def plan(names, quota, **more):
+def plan(names: Iterable[str], quota: int, **more: Any) -> str:
     return line(games=[{"game": name, "quota": quota} for name in names], **more)
 
 
-def new(name, mode, side, snakes, **more):
+def new(name: str, mode: str, side: int, snakes: list[dict[str, Any]], **more: Any) -> str:
     """A line that begins a game on a square board without food."""
     members = {"mode": mode, "width": side, "height": side, "snakes": snakes, "food": []}
     return line(game=name, do="new", **members, **more)
 
 
-def rounds_of(games, rounds, turns, moves):
+def rounds_of(
+    games: dict[str, Any], rounds: int, turns: int, moves: Callable[[int], dict[str, Any]]
+) -> Iterator[str]:
     """The lines of games that are begun, played for `turns` turns in parallel and ended, round by
     round. `games` has the members of `new` by name; `moves` gives the members of a turn's moves."""
     for _ in range(rounds):
@@ -36,7 +43,7 @@ NO_FOOD = {"min_food": 0, "food_chance": 0}
 ROUND = 95  # turns, fewer than a snake lives without food
 
 
-def many_games(rounds):
+def many_games(rounds: int) -> Iterator[str]:
     """64 games of four snakes each, which go round in squares of two by two cells. Each game is
     ended and begun anew, round by round."""
     starts = {"a": (2, 2), "b": (7, 2), "c": (2, 7), "d": (7, 7)}
@@ -44,14 +51,14 @@ def many_games(rounds):
     game = {"mode": "standard", "side": 11, "snakes": snakes, **NO_FOOD}
     games = {f"g{index}": game for index in range(64)}
 
-    def moves(turn):
+    def moves(turn: int) -> dict[str, Any]:
         return {"moves": dict.fromkeys(starts, ("up", "right", "down", "left")[turn % 4])}
 
     yield plan(games, 16_384)
     yield from rounds_of(games, rounds, ROUND, moves)
 
 
-def tour(width, height):
+def tour(width: int, height: int) -> list[tuple[int, int]]:
     """All cells of a board of even width in a closed path: along the bottom row, then up and down
     the columns from the right."""
     cells = [(x, 0) for x in range(width)]
@@ -64,7 +71,7 @@ def tour(width, height):
 DIRECTIONS = {(0, 1): "up", (0, -1): "down", (1, 0): "right", (-1, 0): "left"}
 
 
-def long_game(turns):
+def long_game(turns: int) -> Iterator[str]:
     """One snake that goes on a tour of a board of 20 by 20 cells. The words of every 90th move put
     food before its head."""
     side = 20
@@ -94,7 +101,7 @@ def long_game(turns):
         )
 
 
-def corner_tours(side, columns, rows):
+def corner_tours(side: int, columns: int, rows: int) -> list[list[tuple[int, int]]]:
     """The tours of the equal parts that a square board is cut into, each from the lower left corner
     of its part."""
     width, height = side // columns, side // rows
@@ -102,7 +109,7 @@ def corner_tours(side, columns, rows):
     return [[(left + x, low + y) for x, y in tour(width, height)] for left, low in corners]
 
 
-def orders(tours, turn):
+def orders(tours: list[list[tuple[int, int]]], turn: int) -> dict[str, str]:
     """Each snake's next direction on its tour. The snakes are named by letters."""
     steps = [(cells[turn % len(cells)], cells[(turn + 1) % len(cells)]) for cells in tours]
     return {
@@ -111,7 +118,7 @@ def orders(tours, turn):
     }
 
 
-def starts(tours):
+def starts(tours: list[list[tuple[int, int]]]) -> list[dict[str, Any]]:
     return [
         {"id": "abcdefgh"[seat], "x": cells[0][0], "y": cells[0][1]}
         for seat, cells in enumerate(tours)
@@ -122,7 +129,7 @@ LARGE = 24  # cells of a side, which can be cut into halves, thirds and quarters
 GROWING = 240  # turns, in which each of four snakes grows to 62 parts
 
 
-def feeding_words(side, tours):
+def feeding_words(side: int, tours: list[list[tuple[int, int]]]) -> Iterator[list[int]]:
     """For each turn the words that put food before the head of one snake after the other, in games
     without any other food."""
     bodies = [[cells[0]] * 3 for cells in tours]
@@ -140,7 +147,7 @@ def feeding_words(side, tours):
         yield [0, free.index(food)]
 
 
-def growing_snakes(rounds):
+def growing_snakes(rounds: int) -> Iterator[str]:
     """Eight games on large boards, in each of which four snakes go on tours of a quarter and grow.
     Each is ended and begun anew, round by round."""
     tours = corner_tours(LARGE, 2, 2)
@@ -149,7 +156,7 @@ def growing_snakes(rounds):
     game = {"mode": "standard", "side": LARGE, "snakes": starts(tours), **fed}
     games = {f"g{index}": game for index in range(8)}
 
-    def moves(turn):
+    def moves(turn: int) -> dict[str, Any]:
         return {"moves": orders(tours, turn), "words": words[turn]}
 
     yield plan(games, 1_048_576)
@@ -159,7 +166,7 @@ def growing_snakes(rounds):
 FILLING = 64  # turns, after which eight snakes of a constrictor game fill most of a large board
 
 
-def constrictor(rounds):
+def constrictor(rounds: int) -> Iterator[str]:
     """Eight games of constrictor, in each of which eight snakes fill an eighth of a large board.
     Each is ended and begun anew, round by round."""
     tours = corner_tours(LARGE, 2, 4)
@@ -169,14 +176,14 @@ def constrictor(rounds):
     yield from rounds_of(games, rounds, FILLING, lambda turn: {"moves": orders(tours, turn)})
 
 
-def wrapped(rounds):
+def wrapped(rounds: int) -> Iterator[str]:
     """Eight wrapped games, in each of which eight snakes go to the right, each in a different row,
     again and again across the edge."""
     snakes = [{"id": id, "x": 0, "y": 3 * index} for index, id in enumerate("abcdefgh")]
     game = {"mode": "wrapped", "side": LARGE, "snakes": snakes, **NO_FOOD}
     games = {f"g{index}": game for index in range(8)}
 
-    def moves(turn):
+    def moves(turn: int) -> dict[str, Any]:
         return {"moves": {} if turn else {snake["id"]: "right" for snake in snakes}}
 
     yield plan(games, 16_384, version=2)
@@ -186,7 +193,7 @@ def wrapped(rounds):
 CLOSING = 12  # turns, after which another ring of cells at the edge is hazardous
 
 
-def hazards(rounds):
+def hazards(rounds: int) -> Iterator[str]:
     """Eight games of royale, in each of which eight snakes go round in squares of two by two cells
     while the hazards close in, and never reach them. Each is ended and begun anew."""
     places = [(x, y) for x in (9, 11, 13) for y in (9, 11, 13)][:8]
@@ -194,7 +201,7 @@ def hazards(rounds):
     game = {"mode": "standard", "side": LARGE, "snakes": snakes, **NO_FOOD, "hazard_damage": 14}
     games = {f"g{index}": game for index in range(8)}
 
-    def moves(turn):
+    def moves(turn: int) -> dict[str, Any]:
         directions = dict.fromkeys("abcdefgh", ("up", "right", "down", "left")[turn % 4])
         rings, is_new = divmod(turn + 1, CLOSING)
         return {"moves": directions, **({} if is_new else {"hazards": outer(LARGE, rings)})}
@@ -203,7 +210,7 @@ def hazards(rounds):
     yield from rounds_of(games, rounds, ROUND, moves)
 
 
-def outer(side, rings):
+def outer(side: int, rings: int) -> list[dict[str, Any]]:
     """The cells of a square board that are among this many at some edge."""
     inner = range(rings, side - rings)
     cells = [(x, y) for y in range(side) for x in range(side)]
@@ -214,11 +221,12 @@ STAYED = 20  # turns of a stay
 COMING = 4  # games that are admitted between two turns, until 64 are open
 
 
-def stays(count):
+def stays(count: int) -> Iterator[str]:
     """`count` stays of twenty turns each, at most 64 open at once: a game of two snakes is
     admitted, played, and leaves."""
     snakes = [{"id": "a", "x": 2, "y": 2}, {"id": "b", "x": 7, "y": 7}]
-    turns_of, names = {}, iter(f"g{index}" for index in range(count))
+    turns_of: dict[str, int] = {}
+    names = iter(f"g{index}" for index in range(count))
     yield plan([], 0, version=3)
     while True:
         for name in itertools.islice(names, min(COMING, 64 - len(turns_of))):
@@ -243,7 +251,7 @@ DROPPED = 10  # turns, in one of which the map gives food
 CLOSED = 24  # turns, after which the map gives hazards again
 
 
-def ladder_games(rounds):
+def ladder_games(rounds: int) -> Iterator[str]:
     """64 games of four snakes as a ladder writes them: long ids in no order, orders missing,
     hazards and food that the map gives. The snakes go round in squares of three by three cells."""
     places = [(3, 3), (7, 3), (3, 7), (7, 7)]
@@ -251,7 +259,7 @@ def ladder_games(rounds):
     game = {"mode": "standard", "side": 11, "snakes": snakes, **NO_FOOD, "hazard_damage": 14}
     games = {f"5f0c2e{index:02}": game for index in range(64)}
 
-    def moves(turn):
+    def moves(turn: int) -> dict[str, Any]:
         direction = ("up", "right", "down", "left")[turn // 2 % 4]
         ids = NAMES[:-1] if turn % 2 and turn % MISSED == 0 else NAMES
         hazards = {"hazards": outer(11, 1)} if turn % CLOSED == CLOSED - 1 else {}
@@ -262,13 +270,13 @@ def ladder_games(rounds):
     yield from rounds_of(games, rounds, ROUND, moves)
 
 
-def spaced_games(rounds):
+def spaced_games(rounds: int) -> Iterator[str]:
     """The file of `ladder_games` as Python's json writes it, with spaces and CRLF."""
     for text in ladder_games(rounds):
         yield json.dumps(json.loads(text)) + "\r"
 
 
-def short_commands(count):
+def short_commands(count: int) -> Iterator[str]:
     """Short commands that change nothing: `turn` commands for turns without a record."""
     yield plan(["g"], 4096)
     yield new("g", "solo", 3, [{"id": "s", "x": 1, "y": 1}], **NO_FOOD)
@@ -291,14 +299,14 @@ SHAPES = [
 ]
 
 
-def write(path, lines):
+def write(path: Path, lines: Iterable[str]) -> int:
     with open(path, "w") as file:
         for text in lines:
             file.write(text + "\n")
     return path.stat().st_size
 
 
-def write_all(folder):
+def write_all(folder: Path) -> None:
     folder.mkdir(parents=True, exist_ok=True)
     for _, shape, size, _ in SHAPES:
         path = folder / f"{shape.__name__}.jsonl"

@@ -15,13 +15,6 @@ FIRST = [[(2, 5), (1, 5), (1, 5)], [(8, 5), (9, 5), (9, 5)]]  # after right, lef
 
 
 @pytest.fixture
-def rules(library):
-    import arena_rules
-
-    return arena_rules
-
-
-@pytest.fixture
 def records(rules):
     from arena_rules import records
 

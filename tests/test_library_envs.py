@@ -17,13 +17,6 @@ MODES = ("standard", "solo", "constrictor", "wrapped")
 
 
 @pytest.fixture
-def rules(library):
-    import arena_rules
-
-    return arena_rules
-
-
-@pytest.fixture
 def spaces(library):
     from arena_rules import spaces
 

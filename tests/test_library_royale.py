@@ -14,13 +14,6 @@ HAZARD = 6  # the cause, as arena.h has it
 
 
 @pytest.fixture
-def rules(library):
-    import arena_rules
-
-    return arena_rules
-
-
-@pytest.fixture
 def ladder(library):
     """The map of the ladder: `ladder(games, number)` is the ground of a game."""
     sys.path.append(str(ROOT / "ladder/src"))

@@ -46,7 +46,7 @@ def run(path, words, about=__doc__, more=()):
         if reason := debian.install_library(library, f"python3-{library}"):
             print(f"{path}: not tested: {reason}", file=sys.stderr)
             return 1
-    command = [debian.PYTHON, "-m", "pytest", "-q", "-l", "-c", ROOT / "pytest.ini"]
+    command = [debian.PYTHON, "-m", "pytest", "-q", "-l", "-c", ROOT / "pyproject.toml"]
     command += ["--rootdir", ROOT, ROOT / path, *(ROOT / it for it in more)]
     command += words_of_pytest(words)
     environment = {**os.environ, "PYTHONDONTWRITEBYTECODE": "1"}

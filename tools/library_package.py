@@ -4,6 +4,7 @@ import gzip
 import re
 import subprocess
 import sys
+from collections.abc import Callable
 from pathlib import Path
 
 ROOT = Path(__file__).resolve().parent.parent
@@ -15,9 +16,9 @@ NAMES = ("libarena-dev", "python3-arena-rules")
 STATE = {True: "proved", False: "UNPROVED: nothing of it was checked"}
 
 
-def make(is_proved):
+def make(is_proved: bool) -> None:
     """Builds the library, and checks that it is what it is said to be."""
-    words = [ROOT / "bindings/build", *([] if is_proved else ["--unproved"])]
+    words = [str(ROOT / "bindings/build"), *([] if is_proved else ["--unproved"])]
     if subprocess.run(words, stdout=sys.stderr).returncode != 0:
         sys.exit("package: the library was not built")
     found = re.search("^library: (.*)$", (BUILT / "BUILT").read_text(), re.M)
@@ -25,7 +26,7 @@ def make(is_proved):
         sys.exit(f"package: the library is {found and found[1]}, not {STATE[is_proved]}")
 
 
-def config():
+def config() -> str:
     """The file for pkg-config, by the folders of the package."""
     text = (BUILT / "arena.pc").read_text()
     text = re.sub("^prefix=.*$", "prefix=/usr", text, flags=re.M)
@@ -33,7 +34,7 @@ def config():
     return re.sub("^includedir=.*$", "includedir=${prefix}/include", text, flags=re.M)
 
 
-def common(tree, name, write):
+def common(tree: Path, name: str, write: Callable[[Path, bytes | str], None]) -> None:
     """What each package says of itself."""
     place = tree / "share/doc" / name
     write(place / "BUILT", (BUILT / "BUILT").read_bytes())
@@ -42,7 +43,7 @@ def common(tree, name, write):
     write(place / "SIMULATOR.md", (ROOT / "docs/SIMULATOR.md").read_bytes())
 
 
-def fill(tree, name, write):
+def fill(tree: Path, name: str, write: Callable[[Path, bytes | str], None]) -> None:
     """Fills a folder with what the package of that name has below /usr."""
     common(tree, name, write)
     if name == "libarena-dev":
@@ -57,7 +58,7 @@ def fill(tree, name, write):
         write(to / path.name, path.read_bytes())
 
 
-def control(name, version, is_proved):
+def control(name: str, version: str, is_proved: bool) -> str:
     """The package's control file; one that is not proved says so."""
     text = (TEXTS / f"control.{name}").read_text().replace("VERSION", version)
     return text if is_proved else text.replace(", PROVED", ", UNPROVED: nothing of it was checked")

@@ -6,6 +6,8 @@ Copies crates/arena_c and the crates below it into the folder INTO. There arena_
 `main` calls each export once, so that all of them are compiled. What the calls are given does not
 matter: that program is never run.
 """
+from __future__ import annotations
+
 
 import re
 import shutil
@@ -30,7 +32,7 @@ HEAD = """//! Calls each export of the library.
 """
 
 
-def needed(rows, name):
+def needed(rows: dict[str, str], name: str) -> set[str]:
     """A crate and those below it that crates.txt lists."""
     found = {name}
     for below in rows[name].split():
@@ -38,7 +40,7 @@ def needed(rows, name):
     return found
 
 
-def copy_crates(into):
+def copy_crates(into: Path) -> None:
     """Copies the sources of the library's crates, and writes their crates.txt."""
     rows = dict(ROW.findall((ROOT / "crates.txt").read_text()))
     names = needed(rows, LIBRARY)
@@ -54,15 +56,16 @@ def copy_crates(into):
 class Values:
     """Some value of each type that an export takes."""
 
-    def __init__(self, crates):
-        self.structs, self.homes = {}, {}
+    def __init__(self, crates: Path) -> None:
+        self.structs: dict[str, list[tuple[str, str]]] = {}
+        self.homes: dict[str, str] = {}
         for path in sorted(crates.glob("bs_*/src/*.rt")):
             for name, body in STRUCT.findall(path.read_text()):
                 self.structs[name] = FIELD.findall(body)
                 self.homes[name] = path.parents[1].name
-        self.used = set()
+        self.used: set[str] = set()
 
-    def of(self, kind):
+    def of(self, kind: str) -> str:
         """An expression of a type."""
         if found := LIST.match(kind):
             many = self.of(found[1])
@@ -76,13 +79,13 @@ class Values:
         fields = ", ".join(f"{field}: {self.of(of)}" for field, of in self.structs[name])
         return f"{name} {{ {fields} }}"
 
-    def lent(self, kind):
+    def lent(self, kind: str) -> str:
         """What an argument borrows."""
         kind = kind.removeprefix("&").removeprefix("mut ")
         return f"[{self.of(kind[1:-1])}]" if kind.startswith("[") else self.of(kind)
 
 
-def argument_of(values, kind, held):
+def argument_of(values: Values, kind: str, held: str) -> tuple[str, str]:
     """An argument of a type, and the line before the call that it needs."""
     if kind == "Global":
         return "alloc", ""
@@ -94,7 +97,7 @@ def argument_of(values, kind, held):
     return f"&{mut}{held}", f"    let {mut}{held}{typed} = {values.lent(kind)};\n"
 
 
-def call_of(values, module, name, arguments):
+def call_of(values: Values, module: str, name: str, arguments: str) -> str:
     """A function that makes the values of an export's arguments, and calls it."""
     kinds = [kind.strip() for kind in ARGUMENT.findall(arguments)]
     made = [argument_of(values, kind, f"a{number}") for number, kind in enumerate(kinds)]
@@ -103,7 +106,7 @@ def call_of(values, module, name, arguments):
     return f"fn call_{name}(alloc: Global) {{\n{body}}}\n\n"
 
 
-def program(crates):
+def program(crates: Path) -> str:
     """The text of the program's main.rt."""
     source = crates / LIBRARY / "src"
     modules = MODULE.findall((source / "lib.rt").read_text())
@@ -112,7 +115,7 @@ def program(crates):
         for name, arguments in EXPORT.findall((source / f"{module}.rt").read_text()):
             calls.append(call_of(values, module, name, arguments))
             names.append(name)
-    uses = {}
+    uses: dict[str, list[str]] = {}
     for name in sorted(values.used):
         uses.setdefault(values.homes[name], []).append(name)
     lines = [f"use {crate}::{{{', '.join(uses[crate])}}};\n" for crate in sorted(uses)]
@@ -122,7 +125,7 @@ def program(crates):
     return f"{head}fn main(rt: HostRuntime) {{\n    let alloc = rt.alloc();\n{made}}}\n"
 
 
-def main():
+def main() -> None:
     into = Path(sys.argv[1])
     copy_crates(into)
     crates = into / "crates"

@@ -83,14 +83,14 @@ def program_of(crate: Any) -> Path:
 def is_current(rt: Any, crate: Any, program: Path) -> bool:
     """Whether the file beside a program says that it was built from the sources as they are."""
     kept = rt.rtlib.text_of(f"{program}.stamp")
-    return kept is not None and kept == crate.stamp() + rt.rtlib.sum_of(str(program))
+    return kept is not None and bool(kept == crate.stamp() + rt.rtlib.sum_of(str(program)))
 
 
 def is_built(rt: Any, crate: Any) -> bool:
     """Whether a crate's library or program is built from the sources as they are."""
     if crate.is_program:
         return is_current(rt, crate, program_of(crate))
-    return crate.is_built()
+    return bool(crate.is_built())
 
 
 def version() -> str:

@@ -16,13 +16,13 @@ UNPROVED = (
 TEST = re.compile(r"^\s*#\[test\]", re.M)
 
 
-def count(name):
+def count(name: str) -> int:
     """The number of test functions in the crate's files, also in those that no module names."""
     files = (ROOT / "crates" / name / "src").rglob("*.rt")
     return sum(len(TEST.findall(file.read_text())) for file in files)
 
 
-def proved(is_whole):
+def proved(is_whole: bool) -> list[str]:
     """The crates with tests that the gate proves; the whole one proves all."""
     names = [name for name in dependencies() if is_whole or name not in UNPROVED]
     return [name for name in names if count(name)]

@@ -24,7 +24,8 @@ DAY = (2020, 1, 1, 0, 0, 0)  # of each file, so that the same files give the sam
 
 
 def _project() -> dict[str, Any]:
-    return tomllib.loads((HERE / "pyproject.toml").read_text())["project"]
+    project: dict[str, Any] = tomllib.loads((HERE / "pyproject.toml").read_text())["project"]
+    return project
 
 
 def version() -> str:

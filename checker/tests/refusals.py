@@ -1,14 +1,15 @@
 """The lines of a command file that a transcript refuses."""
 import json
 from collections import Counter
+from typing import Any
 
 SPACE = b" \t\n\r"
 
 
-def replies_by_stay(output):
+def replies_by_stay(output: bytes) -> tuple[list[list[dict[str, Any]]], dict[int, str]]:
     """The replies of each stay, and the code of each stray line by its number."""
-    stays: list[list[dict]] = [[]]
-    strays = {}
+    stays: list[list[dict[str, Any]]] = [[]]
+    strays: dict[int, str] = {}
     for reply in map(json.loads, output.splitlines()):
         if "line" in reply:
             strays[reply["line"]] = reply["no"]
@@ -19,7 +20,7 @@ def replies_by_stay(output):
     return stays, strays
 
 
-def refused_lines(text, output):
+def refused_lines(text: bytes, output: bytes) -> dict[int, str]:
     """The code of each line that a transcript refuses, of the codes of FORM and A4.
 
     The commands of a stay are counted in the file, and the replies by their `seq`.
@@ -29,7 +30,7 @@ def refused_lines(text, output):
     has_stays = plan.get("version", 1) >= 3
     names = [row["game"] for row in plan["games"]]
     open_now = {name: at for at, name in enumerate(names)}
-    answered = Counter()
+    answered: Counter[int] = Counter()
     for number, line in enumerate(text.split(b"\n")[1:], start=2):
         if number in refused or not line.strip(SPACE):
             continue

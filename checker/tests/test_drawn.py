@@ -3,6 +3,8 @@ import multiprocessing
 import random
 import subprocess
 from collections import Counter
+from pathlib import Path
+from typing import Any
 
 import pytest
 from program import ROOT
@@ -18,14 +20,14 @@ FORM = "P1 P2 P3 L1 L2 L3 A1 A2 A3 A5 G1".split()
 BATCH = 50
 
 
-def served(path, text, blocks):
+def served(path: Path, text: bytes, blocks: int) -> tuple[int, bytes, str]:
     """The status, output and errors of `arena serve`."""
-    words = [path, "serve", "-", "--blocks", str(blocks), "--workers", "1"]
+    words = [str(path), "serve", "-", "--blocks", str(blocks), "--workers", "1"]
     ran = subprocess.run(words, input=text, capture_output=True, timeout=SECONDS)
     return ran.returncode, ran.stdout, ran.stderr.decode()
 
 
-def difference(path, text):
+def difference(path: Path, text: bytes) -> tuple[str | None, Counter[str]]:
     """Why arena-check and the program differ on a file, or None; and the codes of the file."""
     found = check(text)
     named = found.refused_lines()
@@ -52,10 +54,12 @@ def difference(path, text):
     return None, codes
 
 
-def compare_some(job):
+def compare_some(job: tuple[Any, ...]) -> tuple[list[str], Counter[str], int]:
     """Compares some drawn files. Returns the faults, the codes and the number of lines."""
     path, seed, numbers = job
-    faults, codes, lines = [], Counter(), 0
+    faults: list[str] = []
+    codes: Counter[str] = Counter()
+    lines = 0
     for number in numbers:
         text = drawn_files.command_file(random.Random(f"{seed} {number}"))
         try:
@@ -72,12 +76,14 @@ def compare_some(job):
 
 
 @pytest.mark.slow
-def test_drawn_files(program, request):
+def test_drawn_files(program: Path, request: pytest.FixtureRequest) -> None:
     """No file differs; a thousand files have each refusal of form."""
     files, seed, jobs = map(request.config.getoption, ("--files", "--seed", "--jobs"))
     numbers = range(files)
     batches = [(program, seed, numbers[at : at + BATCH]) for at in numbers[::BATCH]]
-    faults, codes, lines = [], Counter(), 0
+    faults: list[str] = []
+    codes: Counter[str] = Counter()
+    lines = 0
     with multiprocessing.Pool(jobs) as pool:
         for some, found, count in pool.imap_unordered(compare_some, batches):
             faults += some

@@ -3,6 +3,7 @@ import json
 import os
 import subprocess
 import sys
+from typing import Any
 
 import pytest
 from program import ROOT
@@ -10,18 +11,18 @@ from program import ROOT
 CHECK = ROOT / "checker/arena-check"
 
 PLAN = '{"games":[{"game":"a","quota":64}],"version":5}'
-NEW: dict = {
+NEW: dict[str, Any] = {
     **{"game": "a", "do": "new", "mode": "solo", "width": 11, "height": 7, "food": []},
     "snakes": [{"id": name, "x": at, "y": at} for at, name in enumerate("stu")],
 }
 
 
-def changed(**members):
+def changed(**members: Any) -> str:
     """A `new` line with other members."""
     return json.dumps({**NEW, **members}, ensure_ascii=False)
 
 
-def snake(**members):
+def snake(**members: Any) -> str:
     """A `new` line whose third snake has other members."""
     return changed(snakes=[*NEW["snakes"][:2], {**NEW["snakes"][2], **members}])
 
@@ -99,34 +100,39 @@ NO_PLANS = [
 ]
 
 
-def run_check(text, *words):
+def run_check(text: str, *words: str) -> tuple[int, list[str], str]:
     ran = subprocess.run(
         [CHECK, "-", *words], input=text.encode(), capture_output=True
     )
     return ran.returncode, ran.stdout.decode().splitlines(), ran.stderr.decode()
 
 
-@pytest.mark.parametrize("line, wanted", TEXTS, ids=lambda text: text[:40])
-def test_the_text_of_each_fault(line, wanted):
+def shortened(text: object) -> str:
+    """The name of a test by its text."""
+    return str(text)[:40]
+
+
+@pytest.mark.parametrize("line, wanted", TEXTS, ids=shortened)
+def test_the_text_of_each_fault(line: str, wanted: str) -> None:
     status, printed, _ = run_check(f"{PLAN}\n{line}\n")
     assert (status, printed[0]) == (1, f"-: line 2{wanted}")
 
 
-def test_a_good_file():
+def test_a_good_file() -> None:
     games = [{"game": f"g{at}", "quota": 64} for at in range(28)]
     status, printed, errors = run_check(json.dumps({"games": games}) + "\n")
     assert (status, errors) == (0, "")
     assert printed[-1] == "-: serve it with --blocks 168 or more; without the option there are 64"
 
 
-@pytest.mark.parametrize("line, wanted", NOTES, ids=lambda text: text[:40])
-def test_the_text_of_each_note(line, wanted):
+@pytest.mark.parametrize("line, wanted", NOTES, ids=shortened)
+def test_the_text_of_each_note(line: str, wanted: str) -> None:
     status, printed, _ = run_check(f"{PLAN}\n{changed()}\n{line}\n")
     assert (status, printed[0]) == (0, f"-: line 3: note: {wanted}")
     assert len(printed) == 4
 
 
-def test_what_needs_a_later_version():
+def test_what_needs_a_later_version() -> None:
     plan = PLAN.replace(',"version":5', ',"verison":5')
     lines = [plan, changed(mode="wrapped"), '{"game":"b","do":"admit","quota":64}']
     _, printed, _ = run_check("\n".join(lines))
@@ -141,28 +147,34 @@ def test_what_needs_a_later_version():
 
 
 @pytest.mark.parametrize("text, why", NO_PLANS, ids=("empty", "UTF-16", "a command"))
-def test_what_stands_for_a_plan(text, why):
+def test_what_stands_for_a_plan(text: str, why: str) -> None:
     ran = subprocess.run([CHECK, "-"], input=text, capture_output=True)
     printed = ran.stdout.decode().splitlines()
     assert printed[0].startswith(f"-: {why}"), printed[0]
     assert "the first line has to be the plan, such as" in printed[-1]
 
 
-def test_a_refused_plan():
+def test_a_refused_plan() -> None:
     status, printed, _ = run_check('{"games":[{"game":"a","quota":8}]}\n{oops')
     wanted = "line 1: games[0].quota: 8 is not a whole number from 16 to 16777216 (P2 plan)"
     assert (status, printed[0], len(printed)) == (1, f"-: {wanted}", 2)
 
 
-def test_json():
+def test_json() -> None:
     status, printed, _ = run_check(f"{PLAN}\n{snake(x=11)}\n", "--json")
     found = json.loads("\n".join(printed))
     assert (status, found["blocks"], found["refused_lines"]) == (1, 6, 1)
-    wanted = {"line": 2, "column": None, "path": "snakes[2].x", "code": "G1", "why": "command"}
+    wanted: dict[str, Any] = {
+        "line": 2,
+        "column": None,
+        "path": "snakes[2].x",
+        "code": "G1",
+        "why": "command",
+    }
     assert found["refusals"] == [{**wanted, "message": "11 is not below width 11"}]
 
 
-def test_a_file_that_cannot_be_read():
+def test_a_file_that_cannot_be_read() -> None:
     ran = subprocess.run(
         [CHECK, "no such file"], capture_output=True, text=True
     )

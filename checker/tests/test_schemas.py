@@ -8,7 +8,7 @@ from program import ROOT
 from refusals import SPACE, refused_lines
 
 
-def validator(file, name=None):
+def validator(file: str, name: str | None = None) -> Draft202012Validator:
     schema = json.loads((ROOT / "docs/schema" / file).read_text())
     Draft202012Validator.check_schema(schema)
     if name:
@@ -16,7 +16,7 @@ def validator(file, name=None):
     return Draft202012Validator(schema)
 
 
-def test_each_accepted_line_of_the_cases_is_valid():
+def test_each_accepted_line_of_the_cases_is_valid() -> None:
     for case in cases.cases():
         plan, *lines = case.file.read_bytes().split(b"\n")
         assert validator("plan.json").is_valid(json.loads(plan)), case.name
@@ -29,14 +29,14 @@ def test_each_accepted_line_of_the_cases_is_valid():
                 assert valid.is_valid(json.loads(line)), f"{case.name} {number}"
 
 
-def test_each_line_of_a_transcript_is_valid():
+def test_each_line_of_a_transcript_is_valid() -> None:
     valid = validator("transcript.json")
     for case in cases.cases():
         for line in case.transcript.read_text().splitlines():
             assert valid.is_valid(json.loads(line)), line[:200]
 
 
-def test_what_is_no_line_of_a_transcript():
+def test_what_is_no_line_of_a_transcript() -> None:
     valid = validator("transcript.json")
     for line in ({}, {"line": 1, "no": "L1", "why": "json"}, {"game": "a", "seq": 1}, 3):
         assert not valid.is_valid(line), line

@@ -6,10 +6,12 @@ import shutil
 import subprocess
 import tempfile
 import time
+from collections.abc import Sequence
 from contextlib import suppress
 from pathlib import Path
+from typing import Any
 
-from testing.driver import NoAnswer, start_driver
+from testing.driver import Driver, NoAnswer, start_driver
 
 PACKAGES = {
     "chromium": ["chromium", "fonts-dejavu-core"],
@@ -36,7 +38,7 @@ class NotToBeHad(Exception):
     """The browser is not on the machine, and Debian's packages can't be reached."""
 
 
-def install():
+def install() -> None:
     """Installs the missing packages; raises NotToBeHad if that fails."""
     missing = [
         package
@@ -72,10 +74,10 @@ class Browser:
     next call starts another one, but only once: after that each call fails at once.
     """
 
-    def __init__(self):
+    def __init__(self) -> None:
         self.folder = Path(tempfile.mkdtemp(prefix="viewer-chromium-"))
-        self.driver = None
-        self.session = None
+        self.driver: Driver | None = None
+        self.session: str | None = None
         self.starts = 0
         self.why = ""  # the last driver was ended
         try:
@@ -84,9 +86,9 @@ class Browser:
             self.close()
             raise
 
-    def start(self):
-        """Starts a driver and its Chromium."""
-        while self.session is None:
+    def start(self) -> Driver:
+        """The driver, which is started with its Chromium if there is none."""
+        while self.driver is None or self.session is None:
             if self.starts == MOST_STARTS:
                 raise NoAnswer(f"Chromium did not answer {MOST_STARTS} times: {self.why}")
             self.starts += 1
@@ -97,14 +99,16 @@ class Browser:
                 self.session = self.driver.ask("POST", "/session", wishes)["sessionId"]
             except NoAnswer as fault:
                 self.end(fault)
+        return self.driver
 
-    def end(self, fault):
+    def end(self, fault: NoAnswer) -> None:
         """Ends the driver because of a fault."""
         self.session, self.why = None, str(fault)
         driver, self.driver = self.driver, None
-        driver.end()
+        if driver is not None:
+            driver.end()
 
-    def wishes(self, profile):
+    def wishes(self, profile: Path) -> dict[str, Any]:
         words = [
             "--headless=new",
             "--no-sandbox",
@@ -121,35 +125,36 @@ class Browser:
             "timeouts": {"pageLoad": PAGE_MILLISECONDS, "script": SCRIPT_MILLISECONDS},
         }
 
-    def call(self, method, path, body=None):
+    def call(self, method: str, path: str, body: Any = None) -> Any:
         """The driver's answer to a request, whose path is below the session."""
-        self.start()
+        driver = self.start()
         try:
-            return self.driver.ask(method, f"/session/{self.session}{path}", body)
+            return driver.ask(method, f"/session/{self.session}{path}", body)
         except NoAnswer as fault:
             self.end(fault)
             raise
 
-    def go(self, address):
+    def go(self, address: str) -> None:
         """Loads a page, even if its address differs from the old one only after the `#`."""
         self.call("POST", "/url", {"url": "about:blank"})
         self.call("POST", "/url", {"url": address})
 
-    def run(self, script, *arguments):
+    def run(self, script: str, *arguments: Any) -> Any:
         """Runs the body of a function in the page; returns its value. A promise is awaited."""
         return self.call("POST", "/execute/sync", {"script": script, "args": list(arguments)})
 
-    def element(self, selector):
-        return self.call("POST", "/element", {"using": "css selector", "value": selector})[ELEMENT]
+    def element(self, selector: str) -> str:
+        found = self.call("POST", "/element", {"using": "css selector", "value": selector})
+        return str(found[ELEMENT])
 
-    def click(self, selector):
+    def click(self, selector: str) -> None:
         self.call("POST", f"/element/{self.element(selector)}/click", {})
 
-    def type_into(self, selector, text):
+    def type_into(self, selector: str, text: str) -> None:
         """Types into an element. For a file input the text is the paths of the files."""
         self.call("POST", f"/element/{self.element(selector)}/value", {"text": text})
 
-    def press(self, *keys):
+    def press(self, *keys: Sequence[str]) -> None:
         """Presses keys one after the other; a tuple of keys is pressed together."""
         actions = []
         for key in keys:
@@ -161,7 +166,7 @@ class Browser:
             "POST", "/actions", {"actions": [{"type": "key", "id": "keyboard", "actions": actions}]}
         )
 
-    def drop(self, path):
+    def drop(self, path: Path) -> None:
         """Drops a file on the middle of the page."""
         data = {"items": [], "files": [str(path)], "dragOperationsMask": 1}
         for event in ("dragEnter", "dragOver", "drop"):
@@ -174,7 +179,7 @@ class Browser:
                 },
             )
 
-    def resize(self, width, height):
+    def resize(self, width: int, height: int) -> None:
         """Gives the page itself, without the window around it, that size."""
         self.call(
             "POST",
@@ -190,22 +195,22 @@ class Browser:
             },
         )
 
-    def restore_size(self):
+    def restore_size(self) -> None:
         self.call(
             "POST",
             "/goog/cdp/execute",
             {"cmd": "Emulation.clearDeviceMetricsOverride", "params": {}},
         )
 
-    def picture(self, selector):
+    def picture(self, selector: str) -> bytes:
         """The bytes of a PNG of an element."""
         return base64.b64decode(self.call("GET", f"/element/{self.element(selector)}/screenshot"))
 
-    def complaints(self):
+    def complaints(self) -> list[str]:
         """The errors in the browser's console since the last call."""
         return [entry["message"] for entry in self.call("POST", "/se/log", {"type": "browser"})]
 
-    def wait(self, script, *arguments, seconds=20):
+    def wait(self, script: str, *arguments: Any, seconds: float = 20) -> Any:
         """Waits until a script returns a true value, and returns it."""
         ends = time.monotonic() + seconds
         while True:
@@ -216,7 +221,7 @@ class Browser:
                 raise AssertionError(f"not so within {seconds} s: {script} {arguments}")
             time.sleep(0.005)
 
-    def close(self):
+    def close(self) -> None:
         if self.driver is not None:
             with suppress(NoAnswer, RuntimeError):
                 if self.session is not None:

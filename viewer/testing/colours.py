@@ -1,6 +1,7 @@
 # The distance of two colours for an eye: CIEDE2000, for normal sight and for the three kinds of
 # colour blindness.
 import math
+from collections.abc import Sequence
 
 # By kind of eye, the matrix from linear red, green and blue to what an eye without the cone sees.
 EYES = {
@@ -29,16 +30,16 @@ TO_XYZ = (
 WHITE = (0.95047, 1.0, 1.08883)
 
 
-def times(matrix, vector):
+def times(matrix: Sequence[Sequence[float]], vector: Sequence[float]) -> list[float]:
     return [sum(factor * value for factor, value in zip(row, vector)) for row in matrix]
 
 
-def linear(part):
+def linear(part: float) -> float:
     part /= 255
-    return part / 12.92 if part <= 0.04045 else ((part + 0.055) / 1.055) ** 2.4
+    return part / 12.92 if part <= 0.04045 else math.pow((part + 0.055) / 1.055, 2.4)
 
 
-def lab(colour, eye):
+def lab(colour: tuple[int, ...], eye: str) -> tuple[float, float, float]:
     """Lightness and the two opponent axes of a colour, given as red, green and blue from 0 to 255,
     as an eye sees it."""
     seen = [min(1, max(0, value)) for value in times(EYES[eye], [linear(part) for part in colour])]
@@ -47,17 +48,17 @@ def lab(colour, eye):
     return 116 * y - 16, 500 * (x - y), 200 * (y - z)
 
 
-def hue(a, b):
+def hue(a: float, b: float) -> float:
     return math.degrees(math.atan2(b, a)) % 360 if a or b else 0
 
 
-def hue_step(first, second):
+def hue_step(first: float, second: float) -> tuple[float, float]:
     """The shorter way from one hue to another, in degrees, and the hue in the middle."""
     step = (second - first + 180) % 360 - 180
     return step, (first + step / 2) % 360
 
 
-def distance(first, second):
+def distance(first: tuple[float, float, float], second: tuple[float, float, float]) -> float:
     """The CIEDE2000 difference of two colours in lab."""
     (light1, a1, b1), (light2, a2, b2) = first, second
     mean = ((math.hypot(a1, b1) + math.hypot(a2, b2)) / 2) ** 7

@@ -1,17 +1,20 @@
 # The options and the fixtures of the viewer's tests.
+from collections.abc import Callable
+from collections.abc import Iterator
 from pathlib import Path
 
 import pytest
+from testing.chromium import Browser
 from testing.page import Page
 from testing.served import ROOT, Server
 
 
-def pytest_addoption(parser):
+def pytest_addoption(parser: pytest.Parser) -> None:
     parser.addoption("--pictures", metavar="FOLDER", default=ROOT / "viewer/out", help="of boards")
 
 
 @pytest.fixture
-def pictures(request):
+def pictures(request: pytest.FixtureRequest) -> Path:
     """The folder of the pictures."""
     folder = Path(request.config.getoption("--pictures"))
     folder.mkdir(parents=True, exist_ok=True)
@@ -19,7 +22,7 @@ def pictures(request):
 
 
 @pytest.fixture(scope="session")
-def server():
+def server() -> Iterator[Server]:
     """Serves the repository."""
     opened = Server()
     yield opened
@@ -27,7 +30,7 @@ def server():
 
 
 @pytest.fixture
-def page(browser):
+def page(browser: Browser) -> Iterator[Page]:
     """The viewer. A test fails if the page leaves an error in the console."""
     browser.complaints()
     yield Page(browser)
@@ -35,10 +38,10 @@ def page(browser):
 
 
 @pytest.fixture
-def make_file(tmp_path):
+def make_file(tmp_path: Path) -> Callable[[str, str], Path]:
     """Writes a file with that name and content, and returns its path."""
 
-    def write(name, content):
+    def write(name: str, content: str) -> Path:
         path = tmp_path / name
         path.write_bytes(content if isinstance(content, bytes) else content.encode())
         return path

@@ -10,6 +10,7 @@ import subprocess
 import time
 from contextlib import suppress
 from pathlib import Path
+from typing import Any
 
 START_SECONDS = 60  # until one says its port
 ANSWER_SECONDS = 90  # of a command; the limits of the driver itself are shorter
@@ -24,19 +25,19 @@ class NoAnswer(Exception):
     """A driver that did not start or did not answer in time, with the end of its output."""
 
 
-def command():
+def command() -> list[str]:
     """The words that start a driver on a port that it chooses."""
-    return [shutil.which("chromedriver"), "--port=0"]
+    return [shutil.which("chromedriver") or "chromedriver", "--port=0"]
 
 
-def end_with_parent():
+def end_with_parent() -> None:
     """Lets this process end when the tests are killed: a signal to their group does not reach it."""
     ctypes.CDLL(None).prctl(DEATH_SIGNAL, signal.SIGTERM)
 
 
-def processes_of(session):
+def processes_of(session: int) -> set[int]:
     """The processes of a session, without those that have ended."""
-    found = set()
+    found: set[int] = set()
     for entry in Path("/proc").iterdir():
         with suppress(OSError, ValueError):
             pid = int(entry.name)
@@ -52,9 +53,9 @@ class Driver:
     What it writes goes to a file, so that it never waits for a reader.
     """
 
-    def __init__(self, output):
+    def __init__(self, output: Path) -> None:
         self.output = output
-        self.port = None
+        self.port: int | None = None
         with open(output, "wb") as file:
             self.process = subprocess.Popen(
                 command(),
@@ -65,7 +66,7 @@ class Driver:
                 preexec_fn=end_with_parent,
             )
 
-    def finds_port(self, ends):
+    def finds_port(self, ends: float) -> bool:
         """Waits for the line with the port that it chose. Returns whether it came before a moment
         of the monotonic clock, and before the driver ended."""
         while self.port is None and time.monotonic() < ends:
@@ -79,7 +80,9 @@ class Driver:
                 time.sleep(POLL_SECONDS)
         return self.port is not None
 
-    def ask(self, method, path, body=None, seconds=ANSWER_SECONDS):
+    def ask(
+        self, method: str, path: str, body: Any = None, seconds: float = ANSWER_SECONDS
+    ) -> Any:
         """The value of its answer. Raises NoAnswer without one, and RuntimeError for a fault."""
         connection = http.client.HTTPConnection("127.0.0.1", self.port, timeout=seconds)
         try:
@@ -96,10 +99,10 @@ class Driver:
             raise RuntimeError(f"{method} {path}: {value['error']}: {value['message']}")
         return value
 
-    def last_output(self):
+    def last_output(self) -> str:
         return self.output.read_bytes()[-LAST_BYTES:].decode(errors="replace")
 
-    def end(self):
+    def end(self) -> None:
         """Ends it, and kills what is left of it and of its browser after some seconds."""
         began = processes_of(self.process.pid)
         self.process.terminate()
@@ -112,7 +115,7 @@ class Driver:
             self.process.wait(END_SECONDS)
 
 
-def start_driver(output):
+def start_driver(output: Path) -> Driver:
     """Starts a driver that writes to a file, and returns it; raises NoAnswer if it says no port.
 
     One that ends at once, since another program took its port, is started again.

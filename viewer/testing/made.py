@@ -1,14 +1,18 @@
 # Generated transcripts: a large one of many copies of a real game, and one long game of a single
 # snake.
 import json
+from collections.abc import Iterable
+from collections.abc import Iterator
+from pathlib import Path
+from typing import Any
 
 
-def text(line):
+def text(line: dict[str, Any]) -> str:
     """A line as the program writes it: compact, keys ascending."""
     return json.dumps(line, separators=(",", ":"), sort_keys=True, ensure_ascii=False)
 
 
-def rounds_of(lines, game):
+def rounds_of(lines: list[str], game: str) -> list[dict[str, Any]]:
     """The lines of a game of one round, with an `end` after them, so that they can be repeated."""
     own = [
         line
@@ -18,7 +22,7 @@ def rounds_of(lines, game):
     return own + [{"charge": 0, "do": "end", "game": game}]
 
 
-def write_large(path, lines, game, games, size):
+def write_large(path: Path, lines: list[str], game: str, games: int, size: int) -> int:
     """Writes a transcript of `games` games and at least `size` bytes: each game repeats its round.
     Returns the number of rounds of each."""
     ends = [json.loads(text(line)) for line in rounds_of(lines, game)]
@@ -38,7 +42,7 @@ SIDE = 20
 MEAL = 90  # turns from one food to the next; a snake lives 100 without food
 
 
-def tour():
+def tour() -> list[tuple[int, int]]:
     """All cells in a closed path: along the bottom row, then up and down the columns from the
     right."""
     cells = [(x, 0) for x in range(SIDE)]
@@ -48,10 +52,11 @@ def tour():
     return cells
 
 
-def tour_boards(turns):
+def tour_boards(turns: int) -> Iterator[dict[str, Any]]:
     """The boards of a solo game on the tour; every MEAL turns there is food before the head."""
     cells = tour()
-    body, health, food = [cells[0]] * 3, 100, []
+    body, health = [cells[0]] * 3, 100
+    food: list[tuple[int, int]] = []
     for turn in range(turns + 1):
         if turn > 0:
             body, health = [cells[turn % len(cells)]] + body[:-1], health - 1
@@ -80,11 +85,11 @@ def tour_boards(turns):
         }
 
 
-def points(cells):
+def points(cells: Iterable[tuple[int, int]]) -> list[dict[str, Any]]:
     return [{"x": x, "y": y} for x, y in cells]
 
 
-def write_long(path, turns):
+def write_long(path: Path, turns: int) -> None:
     """Writes a transcript of one game of `turns` turns. Its charges are 0, unlike the program's."""
     with open(path, "w") as file:
         for turn, board in enumerate(tour_boards(turns)):

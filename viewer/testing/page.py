@@ -1,4 +1,9 @@
 # The page as the tests see it: opens transcripts in it, and reads what it shows.
+from pathlib import Path
+
+from testing.chromium import Browser
+from typing import Any
+
 from testing.served import ROOT
 
 PAGE = ROOT / "viewer" / "index.html"
@@ -66,26 +71,31 @@ return [...document.querySelectorAll('#snakes .plot')].map((plot) => ({
 """
 
 
+def stem_of(path: object) -> str:
+    """The name of a test by the path of its file."""
+    return Path(str(path)).stem
+
+
 class Page:
     """The viewer in a browser."""
 
-    def __init__(self, browser):
+    def __init__(self, browser: Browser) -> None:
         self.browser = browser
 
-    def open_empty(self, fragment=""):
+    def open_empty(self, fragment: str = "") -> None:
         """Opens the page from its file, without a transcript."""
         self.browser.go(PAGE.as_uri() + fragment)
 
-    def choose(self, path, seconds=20):
+    def choose(self, path: Path, seconds: float = 20) -> None:
         """Chooses a file, and waits until it has been opened or refused."""
         self.browser.type_into("#choose", str(path))
         self.wait_until_read(path.name, seconds)
 
-    def drop(self, path):
+    def drop(self, path: Path) -> None:
         self.browser.drop(path)
         self.wait_until_read(path.name)
 
-    def wait_until_read(self, name, seconds=20):
+    def wait_until_read(self, name: str, seconds: float = 20) -> None:
         self.browser.wait(
             """
             const isRead = ['open', 'fault'].includes(document.body.dataset.state);
@@ -95,29 +105,33 @@ class Page:
             seconds=seconds,
         )
 
-    def state(self):
-        return self.browser.run("return document.body.dataset.state")
+    def state(self) -> str:
+        return str(self.browser.run("return document.body.dataset.state"))
 
-    def text(self, selector):
-        return self.browser.run("return document.querySelector(arguments[0]).textContent", selector)
+    def text(self, selector: str) -> str:
+        script = "return document.querySelector(arguments[0]).textContent"
+        return str(self.browser.run(script, selector))
 
-    def texts(self, selector):
-        return self.browser.run(
+    def texts(self, selector: str) -> list[str]:
+        found: list[str] = self.browser.run(
             "const found = [...document.querySelectorAll(arguments[0])];"
             "return found.map((element) => element.textContent)",
             selector,
         )
+        return found
 
-    def games(self):
-        return self.browser.run(GAMES)
+    def games(self) -> list[list[str]]:
+        rows: list[list[str]] = self.browser.run(GAMES)
+        return rows
 
-    def board(self):
-        return self.browser.run(BOARD)
+    def board(self) -> dict[str, Any]:
+        board: dict[str, Any] = self.browser.run(BOARD)
+        return board
 
-    def plots(self):
+    def plots(self) -> Any:
         return self.browser.run(PLOTS)
 
-    def choose_game(self, name, stay=1):
+    def choose_game(self, name: str, stay: int = 1) -> None:
         """Clicks a game's name in the table, and waits until the page shows it."""
         self.browser.run(
             """
@@ -140,7 +154,7 @@ class Page:
             str(stay),
         )
 
-    def choose_round(self, number):
+    def choose_round(self, number: int) -> None:
         self.browser.run(
             """
             document.getElementById('round').value = arguments[0];
@@ -149,21 +163,21 @@ class Page:
             number,
         )
 
-    def wait_for_turn(self, turn, last):
+    def wait_for_turn(self, turn: int, last: int) -> None:
         self.browser.wait(
             "return document.getElementById('turn').textContent === arguments[0]",
             f"Turn {turn} of {last}",
         )
 
-    def wait_for_plots(self, seconds=20):
+    def wait_for_plots(self, seconds: float = 20) -> None:
         self.browser.wait(
             "return document.getElementById('snakes').getAttribute('aria-busy') === 'false'",
             seconds=seconds,
         )
 
-    def seat_colours(self):
+    def seat_colours(self) -> list[str]:
         """The colours of the bodies on the board, and that of the board's cells."""
-        return self.browser.run(
+        found: list[str] = self.browser.run(
             """
             const all = (selector) => [...document.querySelectorAll(selector)];
             const painted = (selector, property) =>
@@ -171,3 +185,4 @@ class Page:
             return [...painted('#board .body', 'stroke'), ...painted('#board .cells', 'fill')];
         """
         )
+        return found

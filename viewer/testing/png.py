@@ -5,14 +5,14 @@ import zlib
 CHANNELS = {2: 3, 6: 4}
 
 
-def paeth(left, above, corner):
+def paeth(left: int, above: int, corner: int) -> int:
     guess = left + above - corner
     return min((left, above, corner), key=lambda value: abs(guess - value))
 
 
-def unfiltered(kind, row, above, step):
+def unfiltered(kind: int, raw: bytes, above: bytes, step: int) -> bytearray:
     """Undoes the filter of a row, by the row above it."""
-    row = bytearray(row)
+    row = bytearray(raw)
     for index in range(len(row)):
         left = row[index - step] if index >= step else 0
         corner = above[index - step] if index >= step else 0
@@ -29,9 +29,10 @@ def unfiltered(kind, row, above, step):
     return row
 
 
-def pixels(data):
+def pixels(data: bytes) -> list[tuple[int, ...]]:
     """The pixels of a picture, row by row, each as red, green and blue."""
-    place, packed, head = 8, b"", None
+    place, packed = 8, b""
+    head: tuple[int, ...] = ()
     while place < len(data):
         length, name = struct.unpack(">I4s", data[place : place + 8])
         body = data[place + 8 : place + 8 + length]
@@ -40,7 +41,8 @@ def pixels(data):
         place += 12 + length
     width, height, _, colour, *_ = head
     step = CHANNELS[colour]
-    raw, above, found = zlib.decompress(packed), bytes(width * step), []
+    raw, above = zlib.decompress(packed), bytes(width * step)
+    found: list[tuple[int, ...]] = []
     for start in range(0, height * (width * step + 1), width * step + 1):
         above = unfiltered(raw[start], raw[start + 1 : start + 1 + width * step], above, step)
         found += [tuple(above[index : index + 3]) for index in range(0, len(above), step)]

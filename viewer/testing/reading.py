@@ -1,7 +1,11 @@
+from __future__ import annotations
+
 # An independent parser of transcripts (docs/FORMATS.md), by Python's JSON. The tests compare the
 # page with its result.
 import json
 from dataclasses import dataclass, field
+from pathlib import Path
+from typing import Any
 
 
 @dataclass
@@ -9,35 +13,37 @@ class Game:
     name: str
     stay: int = 1
     stays: int = 1  # of the games of that name
-    rounds: list = field(default_factory=list)  # the boards of each round, by turn
-    refusals: list = field(default_factory=list)  # (line, round, turn)
+    rounds: list[list[dict[str, Any]]] = field(
+        default_factory=list
+    )  # the boards of each round, by turn
+    refusals: list[tuple[Any, ...]] = field(default_factory=list)  # (line, round, turn)
     runs: bool = False
     charge: int = 0
 
-    def stay_text(self):
+    def stay_text(self) -> str:
         return f"stay {self.stay}" if self.stays > 1 else ""
 
-    def last_board(self):
+    def last_board(self) -> dict[str, Any] | None:
         return self.rounds[-1][-1] if self.rounds else None
 
-    def state(self):
-        if not self.rounds:
+    def state(self) -> str:
+        board = self.last_board()
+        if board is None:
             return "not begun"
-        if self.last_board()["over"]:
+        if board["over"]:
             return "over"
         return "running" if self.runs else "ended"
 
-    def living(self):
-        return (
-            [snake["id"] for snake in self.last_board()["snakes"] if snake["cause"] is None]
-            if self.rounds
-            else []
-        )
+    def living(self) -> list[str]:
+        board = self.last_board()
+        return [snake["id"] for snake in board["snakes"] if snake["cause"] is None] if board else []
 
 
-def read(path):
+def read(path: Path) -> tuple[list[Game], list[Any]]:
     """The stays of the games of a transcript in their order, and its stray lines."""
-    games, strays, game = [], [], None
+    games: list[Game] = []
+    strays: list[Any] = []
+    game: Game | None = None
     for text in path.read_text().splitlines():
         line = json.loads(text)
         if "game" not in line:

@@ -1,11 +1,15 @@
 # Steps through every board of every game and compares it with the transcript; tests the plots.
 import json
 from collections import Counter
+from collections.abc import Callable
+from pathlib import Path
+from typing import Any
 
 import pytest
+from testing.chromium import Browser
 from testing.made import points, text
-from testing.page import CASES, TOURNAMENT
-from testing.reading import read
+from testing.page import CASES, Page, TOURNAMENT, stem_of
+from testing.reading import Game, read
 from testing.served import ROOT
 
 FATES = {
@@ -20,7 +24,7 @@ MOST_SHADES = 4
 LOOKS = {(0, 1): "up", (0, -1): "down", (-1, 0): "left", (1, 0): "right"}
 
 
-def fate(snake):
+def fate(snake: dict[str, Any]) -> str:
     return (
         "lives"
         if snake["cause"] is None
@@ -28,7 +32,7 @@ def fate(snake):
     )
 
 
-def step(before, cell, board):
+def step(before: dict[str, int], cell: dict[str, int], board: dict[str, Any]) -> tuple[int, ...]:
     """The columns and rows from a cell to another. On a wrapped board a step across an edge counts
     as a step to a neighbour."""
     found = []
@@ -40,17 +44,18 @@ def step(before, cell, board):
     return tuple(found)
 
 
-def looks(body, board):
-    return LOOKS.get(step(body[1], body[0], board), "nowhere")
+def looks(body: list[dict[str, int]], board: dict[str, Any]) -> str:
+    across, up = step(body[1], body[0], board)
+    return LOOKS.get((across, up), "nowhere")
 
 
-def middles(cells, height):
+def middles(cells: Any, height: int) -> list[Any]:
     """The centres of cells in the picture, without successive repetitions."""
     places = [[cell["x"] + 0.5, height - cell["y"] - 0.5] for cell in cells]
     return [place for index, place in enumerate(places) if index == 0 or place != places[index - 1]]
 
 
-def line_along(body, board):
+def line_along(body: list[dict[str, int]], board: dict[str, Any]) -> tuple[list[Any], int]:
     """The points of the path along a body, and the number of its pieces: at an edge that the body
     crosses the path ends, and begins again at the opposite edge."""
     places, pieces = [], 1
@@ -68,7 +73,7 @@ def line_along(body, board):
     return places, pieces
 
 
-def drawn_snake(seat, snake, board):
+def drawn_snake(seat: int, snake: dict[str, Any], board: dict[str, Any]) -> dict[str, Any]:
     out = snake["cause"] is not None
     cells, pieces = line_along(snake["body"], board)
     return {
@@ -81,11 +86,11 @@ def drawn_snake(seat, snake, board):
     }
 
 
-def drawn_hazards(board):
+def drawn_hazards(board: dict[str, Any]) -> list[dict[str, Any]]:
     """The groups of hazards of one shade: how often a cell is in the list, at most four. A cell has
     three lines. The corners are those at the top left."""
     times = Counter((cell["x"], cell["y"]) for cell in board.get("hazards", []))
-    groups = {}
+    groups: dict[int, list[list[int]]] = {}
     for (x, y), count in times.items():
         corner = [x, board["height"] - y - 1]
         groups.setdefault(min(count, MOST_SHADES), []).append(corner)
@@ -95,7 +100,7 @@ def drawn_hazards(board):
     ]
 
 
-def legend(board):
+def legend(board: dict[str, Any]) -> str | None:
     """The words below a board with hazards; None below other boards."""
     damage, shades = board.get("hazard_damage"), [it["shade"] for it in drawn_hazards(board)]
     if damage is None:
@@ -106,7 +111,7 @@ def legend(board):
     return "A hazard takes in each turn" + "".join(taken)
 
 
-def expected(board, last, with_earlier=False):
+def expected(board: dict[str, Any], last: int, with_earlier: bool = False) -> dict[str, Any]:
     """What the page has to show for a board of a round that ends with turn `last`."""
     snakes = list(enumerate(board["snakes"]))
     out = [
@@ -140,13 +145,13 @@ def expected(board, last, with_earlier=False):
     }
 
 
-def open(page, path):
+def open(page: Page, path: Path) -> list[Game]:
     page.open_empty()
     page.choose(path)
     return read(path)[0]
 
 
-def step_through(page, browser, boards):
+def step_through(page: Page, browser: Browser, boards: list[dict[str, Any]]) -> None:
     last = len(boards) - 1
     page.wait_for_turn(0, last)
     for board in boards:
@@ -156,8 +161,8 @@ def step_through(page, browser, boards):
         assert page.board() == expected(board, last)
 
 
-@pytest.mark.parametrize("path", CASES, ids=lambda path: path.stem)
-def test_each_turn_of_each_game_is_drawn(page, browser, path):
+@pytest.mark.parametrize("path", CASES, ids=stem_of)
+def test_each_turn_of_each_game_is_drawn(page: Page, browser: Browser, path: Path) -> None:
     for game in open(page, path):
         for number, boards in enumerate(game.rounds, 1):
             page.choose_game(game.name, game.stay)
@@ -166,26 +171,20 @@ def test_each_turn_of_each_game_is_drawn(page, browser, path):
             step_through(page, browser, boards)
 
 
-def test_the_cases_hold_every_cause_and_eight_snakes():
-    boards = [
-        board
-        for path in CASES
-        for game in read(path)[0]
-        for boards in game.rounds
-        for board in boards
-    ]
+def boards_of_cases() -> list[dict[str, Any]]:
+    """All boards of all cases."""
+    rounds = [each for path in CASES for game in read(path)[0] for each in game.rounds]
+    return [board for boards in rounds for board in boards]
+
+
+def test_the_cases_hold_every_cause_and_eight_snakes() -> None:
+    boards = boards_of_cases()
     assert {snake["cause"] for board in boards for snake in board["snakes"]} == {None, *FATES}
     assert max(len(board["snakes"]) for board in boards) == 8
 
 
-def test_the_cases_hold_bodies_that_cross_each_edge():
-    boards = [
-        board
-        for path in CASES
-        for game in read(path)[0]
-        for boards in game.rounds
-        for board in boards
-    ]
+def test_the_cases_hold_bodies_that_cross_each_edge() -> None:
+    boards = boards_of_cases()
     bodies = [
         (snake["body"], board)
         for board in boards
@@ -201,7 +200,9 @@ def test_the_cases_hold_bodies_that_cross_each_edge():
     assert crossed == set(LOOKS)
 
 
-def test_bodies_that_went_out_earlier_are_drawn_where_they_are_wished_for(page, browser):
+def test_bodies_that_went_out_earlier_are_drawn_where_they_are_wished_for(
+    page: Page, browser: Browser
+) -> None:
     boards = open(page, TOURNAMENT)[0].rounds[0]
     last = len(boards) - 1
     browser.press("\ue010")
@@ -211,7 +212,9 @@ def test_bodies_that_went_out_earlier_are_drawn_where_they_are_wished_for(page, 
     assert expected(boards[-1], last, with_earlier=True) != expected(boards[-1], last)
 
 
-def with_hazards(make_file, **members):
+def with_hazards(
+    make_file: Callable[[str, str], Path], **members: Any
+) -> tuple[Path, dict[str, Any]]:
     """A file of a solo game that shows one board, in which members are replaced."""
     lines = (ROOT / "examples" / "hazards.transcript").read_text().splitlines()
     first, last = json.loads(lines[0]), json.loads(lines[6])
@@ -220,7 +223,9 @@ def with_hazards(make_file, **members):
     return make_file("hazards.transcript", content), board
 
 
-def test_a_cell_that_is_a_hazard_more_often_is_darker(page, browser, make_file):
+def test_a_cell_that_is_a_hazard_more_often_is_darker(
+    page: Page, browser: Browser, make_file: Callable[[str, str], Path]
+) -> None:
     cells = [(x, 6) for x in range(6) for _ in range(x + 1)]
     path, board = with_hazards(make_file, hazards=points(cells))
     open(page, path)
@@ -249,7 +254,9 @@ BAD_HAZARDS = [
 
 
 @pytest.mark.parametrize("members", BAD_HAZARDS, ids=lambda members: str(members)[:40])
-def test_bad_hazards_are_reported(page, make_file, members):
+def test_bad_hazards_are_reported(
+    page: Page, make_file: Callable[[str, str], Path], members: dict[str, Any]
+) -> None:
     path, _ = with_hazards(make_file, **members)
     page.open_empty()
     page.choose(path)
@@ -257,7 +264,7 @@ def test_bad_hazards_are_reported(page, make_file, members):
     assert fault in page.text("#notice")
 
 
-def test_a_game_without_a_board_says_so(page):
+def test_a_game_without_a_board_says_so(page: Page) -> None:
     games = open(page, TOURNAMENT)
     silent = next(game for game in games if not game.rounds)
     page.choose_game(silent.name)
@@ -268,7 +275,7 @@ def test_a_game_without_a_board_says_so(page):
     assert page.board() == expected(games[0].rounds[0][0], len(games[0].rounds[0]) - 1)
 
 
-def test_a_plot_has_a_point_for_each_turn_until_its_snake_is_out(page):
+def test_a_plot_has_a_point_for_each_turn_until_its_snake_is_out(page: Page) -> None:
     page.open_empty()
     page.choose(TOURNAMENT)
     boards = read(TOURNAMENT)[0][0].rounds[0]
@@ -288,7 +295,7 @@ def test_a_plot_has_a_point_for_each_turn_until_its_snake_is_out(page):
         compare(plot["length"], [len(snake["body"]) for snake in snakes], longest, last)
 
 
-def compare(points, values, greatest, last):
+def compare(points: Any, values: Any, greatest: int, last: int) -> None:
     assert len(points) == len(values)
     for turn, ((x, y), value) in enumerate(zip(points, values)):
         assert x == pytest.approx(turn / last * 240, abs=0.051)

@@ -1,9 +1,13 @@
 # Drops files that are no transcripts on the page: it shows a clear message, and stays usable.
 import json
+from collections.abc import Callable
+from pathlib import Path
+from typing import Any
 
 import pytest
+from testing.chromium import Browser
 from testing.made import text
-from testing.page import TOURNAMENT
+from testing.page import Page, TOURNAMENT
 from testing.reading import read
 from testing.served import ROOT
 from testing.test_boards import expected
@@ -13,7 +17,7 @@ LINES = GOOD.splitlines(keepends=True)
 STRAY = '{"line":2,"no":"L1","why":"json"}\n'
 
 
-def changed(line, *path, to):
+def changed(line: int, *path: Any, to: Any) -> str:
     """The good transcript with one member of a line changed, the one at `path`."""
     value = json.loads(LINES[line - 1])
     inner = value
@@ -24,7 +28,7 @@ def changed(line, *path, to):
 
 
 # By name, a file's content and the message of the page.
-BROKEN = {
+BROKEN: dict[str, tuple[Any, str]] = {
     "nothing": ("", "The file is empty."),
     "picture": (b"\x89PNG\r\n\x1a\n\0\0\0\rIHDR", "Line 1 is no line of a transcript."),
     "commands": (
@@ -107,7 +111,7 @@ BROKEN_LATER = [
 ]
 
 
-def is_dropped(page, make_file, name):
+def is_dropped(page: Page, make_file: Callable[[str, str], Path], name: str) -> None:
     """Drops a broken file, and compares what the page says of it."""
     content, message = BROKEN[name]
     page.drop(make_file(f"{name}.txt", content))
@@ -117,18 +121,24 @@ def is_dropped(page, make_file, name):
 
 
 @pytest.mark.parametrize("name", BROKEN)
-def test_what_is_no_transcript_gets_a_clear_line(page, make_file, name):
+def test_what_is_no_transcript_gets_a_clear_line(
+    page: Page, make_file: Callable[[str, str], Path], name: str
+) -> None:
     page.open_empty()
     is_dropped(page, make_file, name)
 
 
-def test_one_broken_file_after_another_gets_its_line(page, make_file):
+def test_one_broken_file_after_another_gets_its_line(
+    page: Page, make_file: Callable[[str, str], Path]
+) -> None:
     page.open_empty()
     for name in BROKEN:
         is_dropped(page, make_file, name)
 
 
-def test_after_a_broken_file_a_good_one_opens(page, make_file):
+def test_after_a_broken_file_a_good_one_opens(
+    page: Page, make_file: Callable[[str, str], Path]
+) -> None:
     page.open_empty()
     page.drop(make_file("prose.txt", "All snakes live.\n"))
     page.drop(TOURNAMENT)
@@ -140,8 +150,13 @@ def test_after_a_broken_file_a_good_one_opens(page, make_file):
 
 @pytest.mark.parametrize("path, value, fault", BROKEN_LATER)
 def test_a_board_that_cannot_be_drawn_is_reported_when_its_turn_is_shown(
-    page, browser, make_file, path, value, fault
-):
+    page: Page,
+    browser: Browser,
+    make_file: Callable[[str, str], Path],
+    path: Any,
+    value: Any,
+    fault: str,
+) -> None:
     page.open_empty()
     page.choose(make_file("broken.transcript", changed(2, "board", *path, to=value)))
     assert page.state() == "open"

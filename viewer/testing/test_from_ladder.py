@@ -1,9 +1,13 @@
 # A game that a ladder's page opens: it plays by itself, shows what bots answered, and leads back.
 import json
 import os
+from collections.abc import Iterator
+from pathlib import Path
 
 import pytest
-from testing.served import ROOT
+from testing.chromium import Browser
+from testing.page import Page
+from testing.served import ROOT, Server
 
 FILE = "../examples/four_snakes.transcript"
 SAID = "return [...document.querySelectorAll('.answer')].map((it) => it.hidden ? null : it.textContent)"
@@ -15,7 +19,7 @@ SNAKES = "return [...document.querySelectorAll('#snakes strong')].map((it) => it
 
 
 @pytest.fixture
-def answers():
+def answers() -> Iterator[Path]:
     """A file of answers that the server has: of the first turn a move and a missed one, and junk."""
     folder = ROOT / "viewer" / "out"
     folder.mkdir(exist_ok=True)
@@ -24,12 +28,14 @@ def answers():
     path.unlink()
 
 
-def open_game(browser, server, words):
+def open_game(browser: Browser, server: Server, words: str) -> None:
     browser.go(f"{server.root}/viewer/index.html?file={FILE}{words}")
     browser.wait("return document.body.dataset.state === 'open'")
 
 
-def test_answers_are_shown_with_their_turn(page, browser, server, answers):
+def test_answers_are_shown_with_their_turn(
+    page: Page, browser: Browser, server: Server, answers: Path
+) -> None:
     answers.write_text("[]")
     open_game(browser, server, "")
     one, two, three, _ = browser.run(SNAKES)
@@ -52,7 +58,7 @@ def test_answers_are_shown_with_their_turn(page, browser, server, answers):
     browser.complaints()  # the missing file is one
 
 
-def test_way_back_is_to_the_own_server_alone(page, browser, server):
+def test_way_back_is_to_the_own_server_alone(page: Page, browser: Browser, server: Server) -> None:
     """A game with a way back plays at once, and its page has the game's name."""
     open_game(browser, server, "&back=../docs/images/")
     assert browser.run(BACK) == f"{server.root}/docs/images/"

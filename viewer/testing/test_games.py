@@ -1,40 +1,44 @@
 # Compares the table of games and the lists below it with the transcript.
 import re
+from collections.abc import Callable
+from pathlib import Path
+from typing import Any
 
 import pytest
+from testing.chromium import Browser
 from testing.made import text, write_large
-from testing.page import CASES, TOURNAMENT
-from testing.reading import read
+from testing.page import CASES, Page, TOURNAMENT, stem_of
+from testing.reading import Game, read
 
 COLUMNS = ["name", "state", "living", "turns", "rounds", "refused", "charge"]
 
 
-def number(value):
+def number(value: int | None) -> str:
     return "–" if value is None else f"{value:,}"
 
 
-def row_of(game):
+def row_of(game: Game) -> list[Any]:
     board = game.last_board()
     return [
         game.name + game.stay_text(),
         game.state(),
         game.living() or ("nobody" if board else "–"),
-        number(board and board["turn"]),
+        number(board["turn"] if board else None),
         number(len(game.rounds)),
         number(len(game.refusals)),
         number(game.charge),
     ]
 
 
-def sorted_by(games, column, is_descending):
-    keys = {
+def sorted_by(games: list[Game], column: str, is_descending: bool) -> list[Game]:
+    keys: dict[str, Callable[[Game], Any]] = {
         "name": lambda game: [
             (0, int(word), "") if word.isdigit() else (1, 0, word.casefold())
             for word in re.findall(r"\d+|\D+", game.name)
         ],
         "state": lambda game: game.state(),
         "living": lambda game: len(game.living()),
-        "turns": lambda game: game.last_board()["turn"] if game.rounds else -1,
+        "turns": lambda game: game.rounds[-1][-1]["turn"] if game.rounds else -1,
         "rounds": lambda game: len(game.rounds),
         "refused": lambda game: len(game.refusals),
         "charge": lambda game: game.charge,
@@ -42,15 +46,17 @@ def sorted_by(games, column, is_descending):
     return sorted(games, key=keys[column], reverse=is_descending)
 
 
-@pytest.mark.parametrize("path", CASES, ids=lambda path: path.stem)
-def test_each_game_of_each_file_has_its_row(page, path):
+@pytest.mark.parametrize("path", CASES, ids=stem_of)
+def test_each_game_of_each_file_has_its_row(page: Page, path: Path) -> None:
     page.open_empty()
     page.choose(path)
     games, _ = read(path)
     assert page.games() == [row_of(game) for game in games]
 
 
-def test_a_press_on_a_head_sorts_and_a_second_turns_the_order_round(page, browser, make_file):
+def test_a_press_on_a_head_sorts_and_a_second_turns_the_order_round(
+    page: Page, browser: Browser, make_file: Callable[[str, str], Path]
+) -> None:
     for path, columns in ((TOURNAMENT, COLUMNS), (numbered_games(make_file), ["name"])):
         page.open_empty()
         page.choose(path)
@@ -70,7 +76,7 @@ def test_a_press_on_a_head_sorts_and_a_second_turns_the_order_round(page, browse
                 ], (column, order)
 
 
-def numbered_games(make_file):
+def numbered_games(make_file: Callable[[str, str], Path]) -> Path:
     """A transcript of games that were never begun, named by numbers in no sorted order."""
     lines = [
         text({"board": None, "charge": 0, "final": True, "game": f"game {number}"})
@@ -79,7 +85,7 @@ def numbered_games(make_file):
     return make_file("numbered.transcript", "\n".join(lines) + "\n")
 
 
-def test_refused_commands_and_strays_are_listed(page):
+def test_refused_commands_and_strays_are_listed(page: Page) -> None:
     page.open_empty()
     page.choose(TOURNAMENT)
     games, strays = read(TOURNAMENT)
@@ -99,7 +105,7 @@ def test_refused_commands_and_strays_are_listed(page):
             ) in shown
 
 
-def test_a_refused_command_leads_to_its_turn(page, browser):
+def test_a_refused_command_leads_to_its_turn(page: Page, browser: Browser) -> None:
     page.open_empty()
     page.choose(TOURNAMENT)
     games, _ = read(TOURNAMENT)
@@ -112,7 +118,9 @@ def test_a_refused_command_leads_to_its_turn(page, browser):
         page.wait_for_turn(turn, len(game.rounds[round_number - 1]) - 1)
 
 
-def test_a_long_list_is_shown_in_parts(page, browser, make_file):
+def test_a_long_list_is_shown_in_parts(
+    page: Page, browser: Browser, make_file: Callable[[str, str], Path]
+) -> None:
     lines = [text({"line": line, "no": "L1", "why": "json"}) for line in range(2, 502)]
     page.open_empty()
     page.choose(make_file("strays.transcript", "\n".join(lines) + "\n"))
@@ -141,8 +149,8 @@ return {
 
 @pytest.mark.parametrize("width", (1400, 1300))
 def test_with_many_games_the_controls_and_the_chosen_row_are_in_sight(
-    page, browser, tmp_path, width
-):
+    page: Page, browser: Browser, tmp_path: Path, width: int
+) -> None:
     path = tmp_path / "many.transcript"
     write_large(path, TOURNAMENT.read_text().splitlines(), "eight", 28, 1)
     browser.resize(width, 800)

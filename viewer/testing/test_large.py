@@ -1,10 +1,12 @@
 # Large transcripts: 85 MB with 64 games, and one game of 10,000 turns. The page has to stay
 # responsive while it reads them.
 import time
+from pathlib import Path
 
 import pytest
+from testing.chromium import Browser
 from testing.made import tour_boards, write_large, write_long
-from testing.page import TOURNAMENT
+from testing.page import Page, TOURNAMENT
 from testing.reading import read
 from testing.test_boards import expected
 
@@ -27,7 +29,7 @@ window.heartbeat = setInterval(() => {
 """
 
 
-def open_timed(page, browser, path):
+def open_timed(page: Page, browser: Browser, path: Path) -> tuple[float, float]:
     """Opens a file. Returns how long that took, and the longest time without a response of the
     page."""
     page.open_empty()
@@ -40,7 +42,9 @@ def open_timed(page, browser, path):
 
 
 @pytest.mark.slow
-def test_85_megabytes_of_64_games_open_within_a_time(page, browser, tmp_path):
+def test_85_megabytes_of_64_games_open_within_a_time(
+    page: Page, browser: Browser, tmp_path: Path
+) -> None:
     path = tmp_path / "large.transcript"
     rounds = write_large(path, TOURNAMENT.read_text().splitlines(), "eight", GAMES, SIZE)
     assert path.stat().st_size >= SIZE
@@ -69,7 +73,7 @@ def test_85_megabytes_of_64_games_open_within_a_time(page, browser, tmp_path):
 
 
 @pytest.mark.slow
-def test_ten_thousand_turns_of_one_game(page, browser, tmp_path):
+def test_ten_thousand_turns_of_one_game(page: Page, browser: Browser, tmp_path: Path) -> None:
     path = tmp_path / "long.transcript"
     write_long(path, LONG)
     took, _ = open_timed(page, browser, path)

@@ -3,9 +3,11 @@
 import itertools
 import re
 from collections import Counter
+from pathlib import Path
 
+from testing.chromium import Browser
 from testing.colours import EYES, distance, lab
-from testing.page import TOURNAMENT
+from testing.page import Page, TOURNAMENT
 from testing.png import pixels
 from testing.reading import read
 from testing.served import ROOT
@@ -21,17 +23,19 @@ PICTURES = [
 LEAST_DISTANCE = 20  # of two colours in lab, for each eye; 2 is just visible side by side
 
 
-def rgb(painted):
+def rgb(painted: str) -> tuple[int, ...]:
     return tuple(int(part) for part in re.findall(r"\d+", painted)[:3])
 
 
-def show(page, browser, game, turn, last):
+def show(page: Page, browser: Browser, game: str, turn: int, last: int) -> None:
     browser.run("location.hash = arguments[0]", f"game={game}&turn={turn}")
     page.wait_for_turn(turn, last)
     page.wait_for_plots()
 
 
-def test_pictures_show_each_living_snake_in_its_colour(page, browser, pictures):
+def test_pictures_show_each_living_snake_in_its_colour(
+    page: Page, browser: Browser, pictures: Path
+) -> None:
     for name, path, game, turn, with_earlier in PICTURES:
         boards = next(each for each in read(path)[0] if each.name == game).rounds[0]
         page.open_empty()
@@ -57,7 +61,7 @@ def test_pictures_show_each_living_snake_in_its_colour(page, browser, pictures):
                 ), f"{name}, seat {snake['seat']}"
 
 
-def test_colour_blind_eyes_can_tell_the_seats_apart(page, browser):
+def test_colour_blind_eyes_can_tell_the_seats_apart(page: Page, browser: Browser) -> None:
     page.open_empty()
     page.choose(TOURNAMENT)
     show(page, browser, "eight", 1, len(read(TOURNAMENT)[0][0].rounds[0]) - 1)

@@ -1,10 +1,13 @@
 # Playing, pausing, stepping, speed, the slider, the keys, and the address of a turn.
+from pathlib import Path
+from typing import Any
 from urllib.parse import urlencode
 
 import pytest
-from testing.page import PAGE, TOURNAMENT
+from testing.chromium import Browser
+from testing.page import PAGE, Page, TOURNAMENT
 from testing.reading import read
-from testing.served import ROOT
+from testing.served import ROOT, Server
 from testing.test_boards import expected
 
 SPACE, LEFT, UP, RIGHT, HOME, END, SHIFT = (
@@ -23,22 +26,22 @@ LAST = len(GAMES[0].rounds[0]) - 1  # the last turn of the first game
 
 
 @pytest.fixture(autouse=True)
-def opened(page):
+def opened(page: Page) -> None:
     """Shows the first turn of the first game."""
     page.open_empty()
     page.choose(TOURNAMENT)
     page.wait_for_turn(0, LAST)
 
 
-def choose_speed(browser, value):
+def choose_speed(browser: Browser, value: str) -> None:
     browser.run("document.getElementById('speed').value = arguments[0]", value)
 
 
-def turn(page):
+def turn(page: Page) -> int:
     return int(page.text("#turn").split()[1])
 
 
-def test_it_plays_to_the_last_turn_and_stops(page, browser):
+def test_it_plays_to_the_last_turn_and_stops(page: Page, browser: Browser) -> None:
     choose_speed(browser, "50")
     browser.click("#play")
     assert page.text("#play") == "Pause"
@@ -46,7 +49,7 @@ def test_it_plays_to_the_last_turn_and_stops(page, browser):
     browser.wait("return document.getElementById('play').textContent === 'Play'")
 
 
-def test_played_at_the_end_it_begins_anew(page, browser):
+def test_played_at_the_end_it_begins_anew(page: Page, browser: Browser) -> None:
     browser.press(END)
     page.wait_for_turn(LAST, LAST)
     browser.press(SPACE)
@@ -59,7 +62,7 @@ def test_played_at_the_end_it_begins_anew(page, browser):
     )
 
 
-def test_a_pause_holds_the_turn(page, browser):
+def test_a_pause_holds_the_turn(page: Page, browser: Browser) -> None:
     choose_speed(browser, "20")
     browser.press(SPACE)
     browser.wait("return parseInt(document.getElementById('turn').textContent.split(' ')[1]) >= 3")
@@ -78,7 +81,7 @@ def test_a_pause_holds_the_turn(page, browser):
     assert turn(page) < LAST
 
 
-def test_a_greater_speed_shows_more_turns(page, browser):
+def test_a_greater_speed_shows_more_turns(page: Page, browser: Browser) -> None:
     reached = {}
     for speed in ("2", "20"):
         choose_speed(browser, speed)
@@ -98,7 +101,7 @@ def test_a_greater_speed_shows_more_turns(page, browser):
     assert reached["20"] <= 22
 
 
-def test_keys_step(page, browser):
+def test_keys_step(page: Page, browser: Browser) -> None:
     for keys, turn in (
         ((RIGHT, RIGHT), 2),
         ((LEFT,), 1),
@@ -114,7 +117,7 @@ def test_keys_step(page, browser):
         page.wait_for_turn(turn, LAST)
 
 
-def test_a_board_that_is_read_too_late_is_not_shown(page, browser):
+def test_a_board_that_is_read_too_late_is_not_shown(page: Page, browser: Browser) -> None:
     browser.run(
         """
         const read = Blob.prototype.text;
@@ -133,7 +136,7 @@ def test_a_board_that_is_read_too_late_is_not_shown(page, browser):
     assert turn(page) == 2
 
 
-def test_keys_change_the_speed_and_the_game(browser):
+def test_keys_change_the_speed_and_the_game(browser: Browser) -> None:
     speed = "return document.getElementById('speed').value"
     browser.press("+")
     assert browser.run(speed) == "10"
@@ -153,7 +156,7 @@ def test_keys_change_the_speed_and_the_game(browser):
     )
 
 
-def test_the_slider_goes_to_a_turn(page, browser):
+def test_the_slider_goes_to_a_turn(page: Page, browser: Browser) -> None:
     browser.type_into("#slider", RIGHT * 5)
     page.wait_for_turn(5, LAST)
     browser.type_into("#slider", END)
@@ -162,18 +165,20 @@ def test_the_slider_goes_to_a_turn(page, browser):
     assert label == f"Turn {LAST} of {LAST}"
 
 
-def test_a_click_on_a_plot_goes_to_its_turn(page, browser):
+def test_a_click_on_a_plot_goes_to_its_turn(page: Page, browser: Browser) -> None:
     page.wait_for_plots()
     browser.click("#snakes li:first-child .plot")
     page.wait_for_turn(LAST // 2, LAST)
 
 
-def address(server, path, **place):
+def address(server: Server, path: Path, **place: Any) -> str:
     query = urlencode({"file": f"../{path.relative_to(ROOT)}"})
     return f"{server.root}/viewer/index.html?{query}#{urlencode(place)}"
 
 
-def test_an_address_names_the_file_the_game_and_the_turn(page, browser, server):
+def test_an_address_names_the_file_the_game_and_the_turn(
+    page: Page, browser: Browser, server: Server
+) -> None:
     for game in read(TOURNAMENT)[0]:
         for number, boards in enumerate(game.rounds, 1):
             board = boards[len(boards) // 2]
@@ -185,7 +190,9 @@ def test_an_address_names_the_file_the_game_and_the_turn(page, browser, server):
             assert page.board() == expected(board, len(boards) - 1)
 
 
-def test_the_address_follows_the_turn_and_leads_back_to_it(page, browser, server):
+def test_the_address_follows_the_turn_and_leads_back_to_it(
+    page: Page, browser: Browser, server: Server
+) -> None:
     boards = read(TOURNAMENT)[0][0].rounds[0]
     browser.go(address(server, TOURNAMENT))
     page.wait_for_turn(0, len(boards) - 1)
@@ -197,14 +204,16 @@ def test_the_address_follows_the_turn_and_leads_back_to_it(page, browser, server
     page.wait_for_turn(len(boards) - 1, len(boards) - 1)
 
 
-def test_an_address_waits_for_its_file_to_be_chosen(page):
+def test_an_address_waits_for_its_file_to_be_chosen(page: Page) -> None:
     page.open_empty("#game=hungry&turn=42")
     page.choose(TOURNAMENT)
     page.wait_for_turn(42, 100)
     assert page.text("#name") == "hungry"
 
 
-def test_a_file_that_is_chosen_next_takes_the_address_of_the_one_before_away(page, browser, server):
+def test_a_file_that_is_chosen_next_takes_the_address_of_the_one_before_away(
+    page: Page, browser: Browser, server: Server
+) -> None:
     browser.go(address(server, TOURNAMENT, game="hungry", turn=42))
     page.wait_for_turn(42, 100)
     page.choose(ROOT / "examples" / "four_snakes.transcript")
@@ -216,7 +225,7 @@ def test_a_file_that_is_chosen_next_takes_the_address_of_the_one_before_away(pag
     )
 
 
-def test_an_address_of_nothing_is_reported(page):
+def test_an_address_of_nothing_is_reported(page: Page) -> None:
     for fragment, notice in (
         ("game=nobody", "The transcript has no game nobody."),
         ("game=hungry&turn=101", "The game hungry has no turn 101 in round 1."),
@@ -228,7 +237,7 @@ def test_an_address_of_nothing_is_reported(page):
         assert page.text("#notice") == notice
 
 
-def test_a_missing_file_is_reported(page, browser, server):
+def test_a_missing_file_is_reported(page: Page, browser: Browser, server: Server) -> None:
     name = "../examples/nothing.transcript"
     browser.go(f"{server.root}/viewer/index.html?file={name}")
     page.wait_until_read(name)
@@ -236,7 +245,7 @@ def test_a_missing_file_is_reported(page, browser, server):
     assert len(browser.complaints()) == 1
 
 
-def test_no_other_server_is_asked(page, browser, server):
+def test_no_other_server_is_asked(page: Page, browser: Browser, server: Server) -> None:
     name = "http://127.0.0.2:9/some.transcript"
     for start in (f"{server.root}/viewer/index.html", PAGE.as_uri()):
         browser.go(f"{start}?{urlencode({'file': name})}")

@@ -1,6 +1,9 @@
 # The start page: its samples, what it shows and hides, and its colours where the system is dark.
+from pathlib import Path
+
 import pytest
-from testing.page import CASES
+from testing.chromium import Browser
+from testing.page import CASES, Page, stem_of
 from testing.reading import read
 from testing.served import ROOT
 
@@ -17,25 +20,27 @@ return [style.color, style.backgroundColor];
 PANELS = ["#start", "#games", "#panel", "#refusals", "#strays", "#watch", "#board"]
 
 
-def visible(browser):
-    return browser.run(VISIBLE, PANELS)
+def visible(browser: Browser) -> list[str]:
+    """Which of the panels are to be seen."""
+    found: list[str] = browser.run(VISIBLE, PANELS)
+    return found
 
 
-def emulate(browser, scheme):
+def emulate(browser: Browser, scheme: str) -> None:
     """Makes the browser prefer a colour scheme; none if it is empty."""
     features = [{"name": "prefers-color-scheme", "value": scheme}]
     body = {"cmd": "Emulation.setEmulatedMedia", "params": {"features": features}}
     browser.call("POST", "/goog/cdp/execute", body)
 
 
-def test_only_the_start_page_is_there_at_first(page, browser):
+def test_only_the_start_page_is_there_at_first(page: Page, browser: Browser) -> None:
     page.open_empty()
     assert (page.state(), visible(browser)) == ("empty", ["#start"])
     assert len(page.texts("#samples button")) == len(SAMPLES)
 
 
 @pytest.mark.parametrize("name", SAMPLES)
-def test_each_sample_opens_from_a_folder(page, browser, name):
+def test_each_sample_opens_from_a_folder(page: Page, browser: Browser, name: str) -> None:
     snakes, mode = SAMPLES[name]
     page.open_empty()
     browser.click(f"#sample-{name}")
@@ -52,8 +57,8 @@ def test_each_sample_opens_from_a_folder(page, browser, name):
     assert last > 50
 
 
-@pytest.mark.parametrize("path", CASES, ids=lambda path: path.stem)
-def test_empty_lists_are_hidden(page, browser, path):
+@pytest.mark.parametrize("path", CASES, ids=stem_of)
+def test_empty_lists_are_hidden(page: Page, browser: Browser, path: Path) -> None:
     games, strays = read(path)
     page.open_empty()
     page.choose(path)
@@ -63,7 +68,7 @@ def test_empty_lists_are_hidden(page, browser, path):
     assert "#start" not in seen
 
 
-def test_another_file_hides_the_lists_again(page, browser):
+def test_another_file_hides_the_lists_again(page: Page, browser: Browser) -> None:
     page.open_empty()
     page.choose(next(path for path in CASES if path.name == "six_games.transcript"))
     assert "#strays" in visible(browser)
@@ -71,7 +76,7 @@ def test_another_file_hides_the_lists_again(page, browser):
     assert visible(browser) == ["#games", "#panel", "#watch", "#board"]
 
 
-def test_it_is_dark_where_the_system_is(page, browser):
+def test_it_is_dark_where_the_system_is(page: Page, browser: Browser) -> None:
     page.open_empty()
     light = browser.run(COLOURS)
     emulate(browser, "dark")

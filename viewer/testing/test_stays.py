@@ -1,9 +1,13 @@
 # Games that come and go: stays of one name are shown separately, refused admissions are listed.
 import json
+from collections.abc import Callable
+from pathlib import Path
+from typing import Any
 
+from testing.chromium import Browser
 from testing.made import text
-from testing.page import CASES
-from testing.reading import read
+from testing.page import CASES, Page
+from testing.reading import Game, read
 from testing.served import ROOT
 from testing.test_boards import expected
 from testing.test_games import row_of, sorted_by
@@ -15,7 +19,7 @@ NEXT, BEFORE = "n", "p"
 REFUSALS = [("A1", "admit"), ("A2", "open"), ("A3", "games"), ("A4", "pool"), ("A5", "none")]
 
 
-def section(case, game, name):
+def section(case: str, game: str, name: str) -> list[str]:
     """The lines of a game of an example, under another name."""
     lines = [
         json.loads(line) for line in (EXAMPLES / f"{case}.transcript").read_text().splitlines()
@@ -23,7 +27,7 @@ def section(case, game, name):
     return [text({**line, "game": name}) for line in lines if line.get("game") == game]
 
 
-def four_stays(make_file):
+def four_stays(make_file: Callable[[str, str], Path]) -> Path:
     """A transcript in which a game has three stays with different boards, and another game has
     one stay between them."""
     lines = section("quota_of_two_records", "a", "b")
@@ -36,20 +40,20 @@ def four_stays(make_file):
     return make_file("four_stays.transcript", "\n".join(lines) + "\n")
 
 
-def opened(page, path):
+def opened(page: Page, path: Path) -> Any:
     page.open_empty()
     page.choose(path)
     assert (page.state(), page.text("#notice")) == ("open", "")
     return read(path)
 
 
-def shows(page, browser, game):
+def shows(page: Page, browser: Browser, game: Game) -> None:
     assert (page.text("#name"), page.text("#stay")) == (game.name, game.stay_text())
     marked = browser.run("return {...document.querySelector('#games [aria-current]').dataset}")
     assert marked == {"game": game.name, "stay": str(game.stay)}
 
 
-def test_the_case_of_stays_is_among_the_cases(page):
+def test_the_case_of_stays_is_among_the_cases(page: Page) -> None:
     assert STAYS in CASES
     games, strays = opened(page, STAYS)
     assert [(game.name, game.stay) for game in games] == [("a", 1), ("b", 1), ("c", 1), ("b", 2)]
@@ -57,7 +61,9 @@ def test_the_case_of_stays_is_among_the_cases(page):
     assert [stray["no"] for stray in strays] == ["A4", "L2", "A2", "A1", "A5"]
 
 
-def test_each_stay_has_its_row_and_its_boards(page, browser, make_file):
+def test_each_stay_has_its_row_and_its_boards(
+    page: Page, browser: Browser, make_file: Callable[[str, str], Path]
+) -> None:
     games, _ = opened(page, four_stays(make_file))
     assert [(game.name, game.stay) for game in games] == [
         ("b", 1),
@@ -77,7 +83,9 @@ def test_each_stay_has_its_row_and_its_boards(page, browser, make_file):
         assert len(page.texts("#refusals li")) == len(game.refusals)
 
 
-def test_stays_of_one_name_keep_their_order_where_they_are_sorted(page, browser, make_file):
+def test_stays_of_one_name_keep_their_order_where_they_are_sorted(
+    page: Page, browser: Browser, make_file: Callable[[str, str], Path]
+) -> None:
     games, _ = opened(page, four_stays(make_file))
     for order in ("ascending", "descending"):
         browser.click("th[data-column=name] button")
@@ -86,7 +94,9 @@ def test_stays_of_one_name_keep_their_order_where_they_are_sorted(page, browser,
         ]
 
 
-def test_keys_go_from_stay_to_stay(page, browser, make_file):
+def test_keys_go_from_stay_to_stay(
+    page: Page, browser: Browser, make_file: Callable[[str, str], Path]
+) -> None:
     games, _ = opened(page, four_stays(make_file))
     for key, order in ((NEXT, games[1:]), (BEFORE, games[-2::-1])):
         for game in order:
@@ -98,7 +108,9 @@ def test_keys_go_from_stay_to_stay(page, browser, make_file):
             shows(page, browser, game)
 
 
-def test_an_address_names_a_stay(page, browser, make_file):
+def test_an_address_names_a_stay(
+    page: Page, browser: Browser, make_file: Callable[[str, str], Path]
+) -> None:
     path = four_stays(make_file)
     for fragment, game in (
         ("game=b", 0),
@@ -126,7 +138,9 @@ def test_an_address_names_a_stay(page, browser, make_file):
         assert page.text("#notice") == notice
 
 
-def test_the_address_of_a_turn_leads_back_to_its_stay(page, browser, make_file):
+def test_the_address_of_a_turn_leads_back_to_its_stay(
+    page: Page, browser: Browser, make_file: Callable[[str, str], Path]
+) -> None:
     games, _ = opened(page, four_stays(make_file))
     page.choose_game("b", 2)
     page.wait_for_turn(0, len(games[2].rounds[0]) - 1)
@@ -140,7 +154,9 @@ def test_the_address_of_a_turn_leads_back_to_its_stay(page, browser, make_file):
     )
 
 
-def test_refused_admissions_are_among_the_stray_lines(page, make_file):
+def test_refused_admissions_are_among_the_stray_lines(
+    page: Page, make_file: Callable[[str, str], Path]
+) -> None:
     opened(page, four_stays(make_file))
     shown = page.texts("#strays li")
     assert len(shown) == len(REFUSALS)
@@ -149,7 +165,9 @@ def test_refused_admissions_are_among_the_stray_lines(page, make_file):
         assert "undefined" not in item
 
 
-def test_two_thousand_stays(page, browser, make_file):
+def test_two_thousand_stays(
+    page: Page, browser: Browser, make_file: Callable[[str, str], Path]
+) -> None:
     lines = [
         text({"board": None, "charge": 0, "final": True, "game": f"g{at % 64}"})
         for at in range(2_000)

@@ -17,7 +17,7 @@ from operator import index
 from typing import Any, NamedTuple
 
 try:
-    import numpy
+    import numpy as numpy  # also for the other modules
 except ImportError:
     numpy = None  # type: ignore[assignment]
 

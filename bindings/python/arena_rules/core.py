@@ -8,6 +8,7 @@ from sys import getrefcount
 from typing import Any
 
 import numpy as np
+from numpy.typing import NDArray
 
 from arena_rules.buffers import NOTHING, Lent, number
 from arena_rules.games import Games
@@ -22,7 +23,7 @@ LAST, BEYOND, MOST_LENGTH = np.array(LAST_TURN, "u2"), np.array(~3), np.array(25
 INFOS = ("alive", "cause", "killer", "turn")
 
 
-def lent(array: np.ndarray) -> Lent:
+def lent(array: NDArray[Any]) -> Lent:
     """An array of one's own, whose memory stays where it is."""
     return Lent(array, array.__array_interface__["data"][0], array.size)
 
@@ -40,7 +41,7 @@ class Rooms:
     def _holders(self, at: int) -> int:
         return getrefcount(self._arrays[at])
 
-    def take(self) -> np.ndarray:
+    def take(self) -> NDArray[np.uint8]:
         """An array that no caller has, with any contents."""
         for at in range(len(self._arrays)):
             if self._holders(at) == self._free:
@@ -60,9 +61,9 @@ class OnePass:
     def __init__(
         self,
         games: Games,
-        moves: np.ndarray,
-        words: np.ndarray,
-        firsts: tuple[np.ndarray, np.ndarray, np.ndarray],
+        moves: NDArray[Any],
+        words: NDArray[Any],
+        firsts: tuple[NDArray[Any], NDArray[Any], NDArray[Any]],
     ) -> None:
         self.games, self.lists = games, (moves, words, *firsts)
         self._lent = [lent(it) for it in self.lists]
@@ -101,7 +102,7 @@ class OnePass:
             self.games.settings,
         )
 
-    def run(self, planes: np.ndarray | None) -> None:
+    def run(self, planes: NDArray[Any] | None) -> None:
         """Plays, starts and shows; no planes are written if there is no place for them."""
         if self._call is None:
             self._run_by_steps(planes)
@@ -116,7 +117,7 @@ class OnePass:
         if np.count_nonzero(which):
             closing.begin(which)
 
-    def _run_in_one(self, planes: np.ndarray | None) -> None:
+    def _run_in_one(self, planes: NDArray[Any] | None) -> None:
         games, at, each, size = self.games, NOTHING.at, 1, 0
         if planes is not None:
             each = size = planes.size // games.count
@@ -132,7 +133,7 @@ class OnePass:
 
         games._each(one)
 
-    def _run_by_steps(self, planes: np.ndarray | None) -> None:
+    def _run_by_steps(self, planes: NDArray[Any] | None) -> None:
         moves, words, starts, food, which = self.lists
         self.games._play(self._lent[0], self._lent[1], words.shape[1])
         if np.count_nonzero(which):
@@ -164,9 +165,9 @@ class Core:
         self._which = np.zeros(self.count, bool)
         self._health_and_length = np.zeros((self.count, 2 * self.seats), "u1")
         self.rng: np.random.Generator | None = None
-        self._word_blocks: Iterator[np.ndarray] = iter(())
+        self._word_blocks: Iterator[NDArray[Any]] = iter(())
         self._numbers, self._next = np.zeros(0, "i8"), 0
-        self._layouts: tuple[np.ndarray, np.ndarray] | None = None
+        self._layouts: tuple[NDArray[Any], NDArray[Any]] | None = None
         self._lay_out_heads()
 
     def _lay_out_heads(self) -> None:
@@ -178,8 +179,11 @@ class Core:
         self._from, self._heads = games[:, :used], buffer[:, :used]
         self._is_few = self.count <= FEW
         heads = self.games.states["head"] if self._is_few else buffer.view(head)[:, 0]
-        self._over, self._turn, seats = heads["over"], heads["turn"], heads["seats"]
-        self._seats = {name: seats[name][:, : self.seats] for name in seats.dtype.names}
+        self._over, seats = heads["over"], heads["seats"]
+        self._turn: NDArray[Any] = heads["turn"]
+        self._seats: dict[str, NDArray[Any]] = {
+            name: seats[name][:, : self.seats] for name in seats.dtype.names
+        }
 
     def seed(self, rng: np.random.Generator) -> None:
         """Takes a generator, and draws the first boards."""
@@ -196,7 +200,7 @@ class Core:
             games, self.moves, self._words, (self._starts, self._food, self._which)
         )
 
-    def _draw_starts(self, which: np.ndarray) -> None:
+    def _draw_starts(self, which: NDArray[Any]) -> None:
         """Draws first boards for the marked games."""
         assert self.rng is not None and self._layouts is not None
         rows = np.flatnonzero(which)
@@ -237,7 +241,7 @@ class Core:
             raise ValueError(f"actions are {given.min()} to {given.max()}, and may be 0 to 3")
         np.copyto(self.moves, given.reshape(self.moves.shape), casting="unsafe")
 
-    def turn(self, planes: np.ndarray | None) -> np.ndarray:
+    def turn(self, planes: NDArray[Any] | None) -> NDArray[Any]:
         """A turn of all games by `moves`, and new games where one had ended, which are returned.
 
         Writes the planes of all as `show` does.
@@ -266,24 +270,24 @@ class Core:
         of each snake; on a map the hazards."""
         return 1 + (3 if scalars else 1) * self.seats + (self.games.map is not None)
 
-    def seat_view(self, name: str) -> np.ndarray:
+    def seat_view(self, name: str) -> NDArray[Any]:
         """A number of each seat, as it was looked at: a view (count, seats)."""
         return self._seats[name]
 
-    def seat_numbers(self, name: str) -> np.ndarray:
+    def seat_numbers(self, name: str) -> NDArray[Any]:
         """A number of each seat, as it was looked at: a copy (count, seats)."""
         return self._seats[name].copy()
 
-    def turns(self) -> np.ndarray:
+    def turns(self) -> NDArray[Any]:
         """The turn of each game: a copy."""
         return self._turn.copy()
 
-    def show(self, into: np.ndarray) -> None:
+    def show(self, into: NDArray[Any]) -> None:
         """Writes the planes of all games into an array (count, planes, height, width), of which
         the first 1 + seats are written."""
         self.games._show(into.__array_interface__["data"][0], into.size // self.count)
 
-    def health_and_length(self) -> np.ndarray:
+    def health_and_length(self) -> NDArray[Any]:
         """The health of all seats, then their lengths, at most 255: (count, 2 * seats); both are 0
         for a snake that is out. The next call writes the same memory."""
         seats, both = self.seats, self._health_and_length
@@ -292,18 +296,18 @@ class Core:
         np.multiply(length, self.alive, out=both[:, seats:], casting="unsafe")
         return both
 
-    def show_seats(self, into: np.ndarray) -> None:
+    def show_seats(self, into: NDArray[Any]) -> None:
         """Writes planes of health and of length behind those of the snakes."""
         seats, both = self.seats, self.health_and_length()
         cells = into.reshape(self.count, into.shape[1], -1)  # a plane is one run of bytes
         cells[:, 1 + seats : 1 + 3 * seats] = both[:, :, None]
 
-    def show_hazards(self, into: np.ndarray) -> None:
+    def show_hazards(self, into: NDArray[Any]) -> None:
         """Writes the plane of the hazards, the last one, for games on a map."""
         if self.games.map is not None:
             into[:, -1] = self.games.hazards
 
-    def infos(self) -> dict[str, np.ndarray]:
+    def infos(self) -> dict[str, NDArray[Any]]:
         """Which snakes live, and what eliminated the others, by game and seat; each game's turn."""
         return {
             "alive": self.alive.copy(),
@@ -313,7 +317,7 @@ class Core:
         }
 
 
-def masks(count: int, *more: str) -> dict[str, np.ndarray]:
+def masks(count: int, *more: str) -> dict[str, NDArray[Any]]:
     """The masks that gymnasium has beside infos: of which environments each is given, here all."""
     given = np.ones(count, bool)
     given.flags.writeable = False

@@ -6,7 +6,7 @@ import ctypes
 from collections.abc import Callable
 from concurrent.futures import ThreadPoolExecutor
 from ctypes import addressof, byref
-from typing import Any
+from typing import Any, TypeVar
 
 from arena_rules.buffers import (
     BYTE,
@@ -39,6 +39,7 @@ MOST_BYTES = 20_000  # more than the record of any game in memory has
 MOST_GAMES = 1 << 24
 STRIDE = 32  # the cell (x, y) of a game's lists is (y + 1) * STRIDE + x + 1
 STEPS = (STRIDE, -STRIDE, -1, 1)  # up, down, left, right
+Answer = TypeVar("Answer")
 
 
 def dtype_of(struct: type) -> Any:
@@ -179,11 +180,11 @@ class Games:
     def __exit__(self, *_: object) -> None:
         self.close()
 
-    def _each(self, call: Callable[[int, int], Any]) -> list[Any]:
+    def _each(self, call: Callable[[int, int], Answer]) -> list[Answer]:
         """Calls for each range of games."""
         if self._pool is None:
             return [call(low, count) for low, count in self._ranges]
-        return list(self._pool.map(lambda cut: call(*cut), self._ranges))
+        return list(self._pool.map(call, *zip(*self._ranges)))
 
     def _at(self, low: int) -> int:
         return self._address + low * self._size
@@ -232,7 +233,7 @@ class Games:
                 which_len=games,
                 settings=self.settings,
             )
-            return call(self._at(low), games, byref(first))
+            return int(call(self._at(low), games, byref(first)))
 
         started = sum(self._each(one))
         if self._closing is not None:
@@ -306,11 +307,11 @@ class Games:
 
     def _show(self, at: int, each: int) -> None:
         """Writes the planes of each game to `each` bytes at an address."""
-        self._each(
-            lambda low, games: self._planes(
-                self._at(low), games, at + low * each, games * each, each
-            )
-        )
+
+        def one(low: int, games: int) -> None:
+            self._planes(self._at(low), games, at + low * each, games * each, each)
+
+        self._each(one)
 
     @property
     def map(self) -> Royale | None:
@@ -395,7 +396,7 @@ class Games:
 
     def is_over(self, game: int) -> bool:
         """Whether a game is over."""
-        return self.memory[position("game", game, self.count)].head.over != 0
+        return bool(self.memory[position("game", game, self.count)].head.over)
 
     def record(self, game: int) -> bytes:
         """The record of a game's board. Its snakes have the ids "0" to "7".

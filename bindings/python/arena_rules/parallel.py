@@ -8,6 +8,7 @@ from __future__ import annotations
 from typing import Any
 
 import numpy as np
+from numpy.typing import NDArray
 
 from arena_rules import render as drawing
 from arena_rules.buffers import number
@@ -19,7 +20,7 @@ from arena_rules.vector import RENDER_MODES
 
 STRAIGHT_ON = 4
 Answers = tuple[
-    dict[str, np.ndarray],
+    dict[str, NDArray[np.uint8]],
     dict[str, float],
     dict[str, bool],
     dict[str, bool],
@@ -75,13 +76,13 @@ class ParallelEnv(ParallelBase):  # type: ignore[misc]
     def _seats(self) -> list[tuple[int, str]]:
         return [(int(agent.removeprefix("snake_")), agent) for agent in self.agents]
 
-    def _observations(self) -> dict[str, np.ndarray]:
+    def _observations(self) -> dict[str, NDArray[np.uint8]]:
         seen = self._view.observed()[0]
         return {agent: seen[seat] for seat, agent in self._seats()}
 
     def reset(
         self, seed: int | None = None, options: dict[str, Any] | None = None
-    ) -> tuple[dict[str, np.ndarray], dict[str, dict[str, Any]]]:
+    ) -> tuple[dict[str, NDArray[np.uint8]], dict[str, dict[str, Any]]]:
         """Starts a game. Returns the observations and infos by agent."""
         refuse_options(options)
         if seed is None:
@@ -132,13 +133,14 @@ class ParallelEnv(ParallelBase):  # type: ignore[misc]
         self.agents = [it for it in self.agents if not (ended[it] or truncated[it])]
         return seen, rewards, ended, truncated, infos
 
-    def state(self) -> np.ndarray:
+    def state(self) -> NDArray[np.uint8]:
         """The whole game as in `VectorEnv`, in `state_space`: the seats in their order."""
         planes = np.empty((1, *self.state_space.shape), "u1")
         self.core.show(planes)
         self.core.show_seats(planes)
         self.core.show_hazards(planes)
-        return planes[0]
+        whole: NDArray[np.uint8] = planes[0]
+        return whole
 
     def render(self) -> Any:
         """The board as text or as a picture, by `render_mode`; None without one."""

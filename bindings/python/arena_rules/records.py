@@ -87,7 +87,7 @@ def is_legal(record: bytes) -> bool:
     status = library.arena_legal(record, len(record))
     if status > 1:
         check(status)
-    return status == 0
+    return bool(status == 0)
 
 
 def is_over(record: bytes) -> bool:

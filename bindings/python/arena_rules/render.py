@@ -5,6 +5,7 @@ from __future__ import annotations
 from typing import TYPE_CHECKING
 
 import numpy as np
+from numpy.typing import NDArray
 
 if TYPE_CHECKING:
     from arena_rules.games import Games
@@ -41,7 +42,7 @@ def ansi(games: Games, game: int) -> str:
     return "\n".join([f"turn {turn}", *("".join(row) for row in reversed(rows))]) + "\n"
 
 
-def rgb(games: Games, game: int) -> np.ndarray:
+def rgb(games: Games, game: int) -> NDArray[np.uint8]:
     """A board as a picture (CELL * height, CELL * width, 3) of bytes, the highest row first."""
     cells = np.empty((games.height, games.width, 3), "u1")
     cells[:] = np.where(games.hazards[game][:, :, None], HAZARD, EMPTY)

@@ -58,7 +58,8 @@ def map_of(given: Any) -> Royale | None:
 
 def address_of(array: Any) -> int:
     """Where the memory of an array begins."""
-    return array.__array_interface__["data"][0]
+    address: int = array.__array_interface__["data"][0]
+    return address
 
 
 def damage_of(record: bytes) -> int:

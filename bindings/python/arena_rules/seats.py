@@ -6,18 +6,19 @@ from __future__ import annotations
 from typing import Any
 
 import numpy as np
+from numpy.typing import NDArray
 
 from arena_rules.core import Rooms, masks
 from arena_rules.spaces import Discrete, batch_space, planes_space
-from arena_rules.vector import Environments
+from arena_rules.vector import Environments, Turned
 
 
-def seat_order(seats: int) -> np.ndarray:
+def seat_order(seats: int) -> NDArray[Any]:
     """For each seat all seats, the own one first: (seats, seats)."""
     return np.array([[own, *(it for it in range(seats) if it != own)] for own in range(seats)])
 
 
-def copy_own_first(from_: np.ndarray, own: int, into: np.ndarray, run: int) -> None:
+def copy_own_first(from_: NDArray[Any], own: int, into: NDArray[Any], run: int) -> None:
     """Copies what each seat has, `run` bytes side by side, for all games, in the order of a seat:
     three runs, which is faster than one plane after the other."""
     behind = (own + 1) * run
@@ -41,7 +42,7 @@ class SeatView:
         self.shape = (core.count, core.seats, core.planes(), games.height, games.width)
         self.rooms = Rooms(self.shape)
 
-    def observed(self, into: np.ndarray | None = None) -> np.ndarray:
+    def observed(self, into: NDArray[np.uint8] | None = None) -> NDArray[np.uint8]:
         """The observations of all seats of all games, in the shape `shape`, from `planes`."""
         core, seats = self.core, self.core.seats
         out = self.rooms.take() if into is None else into
@@ -56,7 +57,7 @@ class SeatView:
             out[:, :, -1] = core.games.hazards[:, None]
         return out
 
-    def _show_seats(self, out: np.ndarray) -> None:
+    def _show_seats(self, out: NDArray[Any]) -> None:
         """Writes the planes of health and of length."""
         seats, both = self.core.seats, self.core.health_and_length()
         for first, mine in ((1 + seats, both[:, :seats]), (1 + 2 * seats, both[:, seats:])):
@@ -99,10 +100,10 @@ class SeatEnv(Environments):
         self._playing = np.zeros((core.count, core.seats), bool)
         self._masks = masks(self.num_envs, "waiting")
 
-    def _flat(self, by_seat: np.ndarray) -> np.ndarray:
+    def _flat(self, by_seat: NDArray[Any]) -> NDArray[Any]:
         return np.ascontiguousarray(by_seat).reshape(self.num_envs, *by_seat.shape[2:])
 
-    def _infos(self, waiting: np.ndarray) -> dict[str, Any]:
+    def _infos(self, waiting: NDArray[Any]) -> dict[str, Any]:
         infos = self.core.infos()
         infos["turn"] = infos["turn"].repeat(self.seats)
         flat = {name: it if it.ndim == 1 else self._flat(it) for name, it in infos.items()}
@@ -110,16 +111,14 @@ class SeatEnv(Environments):
 
     def reset(
         self, *, seed: int | None = None, options: dict[str, Any] | None = None
-    ) -> tuple[np.ndarray, dict[str, Any]]:
+    ) -> tuple[NDArray[np.uint8], dict[str, Any]]:
         """Starts every game. Returns observations and infos."""
         self._begin(seed, options)
         self._playing = self.core.alive.copy()
         self.core.show(self._view.planes)
         return self._flat(self._view.observed(self._kept)), self._infos(~self._playing)
 
-    def step(
-        self, actions: Any
-    ) -> tuple[np.ndarray, np.ndarray, np.ndarray, np.ndarray, dict[str, Any]]:
+    def step(self, actions: Any) -> Turned:
         """Plays a turn. Returns observations, rewards, terminations, truncations and infos."""
         core, before = self.core, self._playing
         self._take(actions, (self.num_envs,))

@@ -17,12 +17,7 @@ try:
     MultiDiscrete: Any = _spaces.MultiDiscrete
     HAS_GYMNASIUM = True
 except ImportError:
-    from arena_rules.standins import (  # type: ignore[assignment]
-        AutoresetMode,
-        VectorEnv as VectorBase,
-        batch_space,
-        generator,
-    )
+    from arena_rules.standins import AutoresetMode, VectorEnv as VectorBase, batch_space, generator
 
     Box = standins.Box
     Discrete, MultiDiscrete = standins.Discrete, standins.MultiDiscrete

@@ -11,6 +11,7 @@ from enum import Enum
 from typing import Any
 
 import numpy as np
+from numpy.typing import NDArray
 
 
 class AutoresetMode(Enum):
@@ -89,7 +90,7 @@ class Box(Space):
         self.high = np.broadcast_to(np.asarray(high, self.dtype), self.shape)
         self.bounded_below = self.bounded_above = np.ones(self.shape, bool)
 
-    def sample(self, mask: Any = None, probability: Any = None) -> np.ndarray:
+    def sample(self, mask: Any = None, probability: Any = None) -> NDArray[Any]:
         high = self.high.astype("i8") + 1
         return self.np_random.integers(self.low.astype("i8"), high).astype(self.dtype)
 
@@ -141,8 +142,9 @@ class MultiDiscrete(Space):
         self.start = np.zeros_like(self.nvec) if start is None else np.array(start, dtype)
         super().__init__(self.nvec.shape, dtype, seed)
 
-    def sample(self, mask: Any = None, probability: Any = None) -> np.ndarray:
-        return self.start + self.np_random.integers(self.nvec).astype(self.dtype)
+    def sample(self, mask: Any = None, probability: Any = None) -> NDArray[Any]:
+        drawn = self.np_random.integers(self.nvec).astype(self.dtype)
+        return np.asarray(self.start + drawn)
 
     def contains(self, x: Any) -> bool:
         found = self._array(x)

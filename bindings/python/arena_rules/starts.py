@@ -2,7 +2,10 @@
 
 from __future__ import annotations
 
+from typing import Any
+
 import numpy as np
+from numpy.typing import NDArray
 
 LAYOUTS = 1024  # drawn for each seed; a game begins with one of them
 SMALLEST_FIXED = 7
@@ -18,7 +21,7 @@ def _centre(width: int, height: int) -> tuple[int, int]:
     return (width - 1) // 2, (height - 1) // 2
 
 
-def even_cells(width: int, height: int) -> np.ndarray:
+def even_cells(width: int, height: int) -> NDArray[Any]:
     """The cells of one colour of a chessboard, without the centre."""
     cells = [(x, y) for x in range(width) for y in range(height) if (x + y) % 2 == 0]
     return np.array([cell for cell in cells if cell != _centre(width, height)], "u1")
@@ -38,7 +41,7 @@ def check_seats(width: int, height: int, seats: int) -> None:
         )
 
 
-def fixed_cells(side: int) -> np.ndarray:
+def fixed_cells(side: int) -> NDArray[Any]:
     """The eight cells of a square board: corners, then the middles of the edges."""
     near, middle, far = 1, (side - 1) // 2, side - 2
     corners = [(x, y) for x in (near, far) for y in (near, far)]
@@ -64,12 +67,12 @@ def food_near(head: tuple[int, int], side: int) -> list[tuple[int, int]]:
     ]
 
 
-def _orders(rng: np.random.Generator, count: int, length: int) -> np.ndarray:
+def _orders(rng: np.random.Generator, count: int, length: int) -> NDArray[Any]:
     """Drawn orders of the numbers below a length, one in each row."""
     return rng.random((count, length)).argsort(axis=1)
 
 
-def _fixed(rng: np.random.Generator, side: int, seats: int) -> tuple[np.ndarray, np.ndarray]:
+def _fixed(rng: np.random.Generator, side: int, seats: int) -> tuple[NDArray[Any], NDArray[Any]]:
     """On a square board: the corners or the edges first, each in a drawn order; food near each
     head and in the centre."""
     corners, edges = _orders(rng, LAYOUTS, 4), 4 + _orders(rng, LAYOUTS, 4)
@@ -87,7 +90,7 @@ def _fixed(rng: np.random.Generator, side: int, seats: int) -> tuple[np.ndarray,
 
 def _drawn(
     rng: np.random.Generator, width: int, height: int, seats: int
-) -> tuple[np.ndarray, np.ndarray]:
+) -> tuple[NDArray[Any], NDArray[Any]]:
     """On another board: drawn cells of one colour, and for each snake one food that no head is on
     or can reach in one step, as far as there are such cells in every layout."""
     even = even_cells(width, height)
@@ -102,7 +105,7 @@ def _drawn(
 
 def layouts(
     rng: np.random.Generator, width: int, height: int, seats: int, mode: str
-) -> tuple[np.ndarray, np.ndarray]:
+) -> tuple[NDArray[Any], NDArray[Any]]:
     """Starting cells and first food of LAYOUTS boards: two arrays (LAYOUTS, entries, 2)."""
     if _is_fixed(width, height):
         starts, food = _fixed(rng, width, seats)

@@ -5,13 +5,19 @@ from __future__ import annotations
 from typing import Any
 
 import numpy as np
+from numpy.typing import NDArray
 
 from arena_rules import render as drawing
-from arena_rules.core import LAST_TURN, Core, Rooms, masks, refuse_options
+from arena_rules.core import Core, Rooms, masks, refuse_options
+from arena_rules.library import LAST_TURN
 from arena_rules.spaces import AutoresetMode, MultiDiscrete, VectorBase, batch_space, planes_space
 
 __all__ = ["LAST_TURN", "VectorEnv"]
 RENDER_MODES = ["rgb_array", "ansi"]
+# Observations, rewards, terminations, truncations and infos.
+Turned = tuple[
+    NDArray[np.uint8], NDArray[np.float64], NDArray[np.bool_], NDArray[np.bool_], dict[str, Any]
+]
 
 
 class Environments(VectorBase):  # type: ignore[misc]
@@ -105,13 +111,13 @@ class VectorEnv(Environments):
         self._kept = None if copy else self._rooms.take()
         self._masks = masks(self.num_envs)
 
-    def _room(self) -> np.ndarray:
+    def _room(self) -> NDArray[np.uint8]:
         """Where the observations of a call are written."""
         if self._kept is not None:
             return self._kept
         return self._rooms.take() if self._observe else np.zeros(self._shape, "u1")
 
-    def _observed(self, planes: np.ndarray) -> np.ndarray:
+    def _observed(self, planes: NDArray[np.uint8]) -> NDArray[np.uint8]:
         if self._observe and self._scalars:
             self.core.show_seats(planes)
         if self._observe:
@@ -120,7 +126,7 @@ class VectorEnv(Environments):
 
     def reset(
         self, *, seed: int | None = None, options: dict[str, Any] | None = None
-    ) -> tuple[np.ndarray, dict[str, Any]]:
+    ) -> tuple[NDArray[np.uint8], dict[str, Any]]:
         """Starts every game. Returns observations and infos."""
         self._begin(seed, options)
         planes = self._room()
@@ -128,9 +134,7 @@ class VectorEnv(Environments):
             self.core.show(planes)
         return self._observed(planes), {**self.core.infos(), **self._masks}
 
-    def step(
-        self, actions: Any
-    ) -> tuple[np.ndarray, np.ndarray, np.ndarray, np.ndarray, dict[str, Any]]:
+    def step(self, actions: Any) -> Turned:
         """Plays a turn. Returns observations, rewards, terminations, truncations and infos."""
         core = self.core
         self._take(actions, (self.num_envs, self.seats))
