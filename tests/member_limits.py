@@ -19,6 +19,9 @@ def cells(width: int, height: int) -> list[dict[str, Any]]:
     return [{"x": x, "y": y} for y in range(height) for x in range(width)]
 
 
+# Values that are no list of food on a board of 5 by 5 cells.
+NO_FOOD_LISTS: list[Any] = [None, {}, [[1, 1]], [{"x": 1}], cells(6, 1), cells(1, 6)]
+NO_FOOD_LISTS += [cells(5, 5) + cells(1, 1), [{"x": -1, "y": 0}]]
 # Members of a `new`, and a part of the board in its reply, or None if the `new` is refused.
 SETUPS = [
     *[({"width": width}, '"width":%d}' % width) for width in (3, 25)],
@@ -63,19 +66,7 @@ SETUPS = [
     ],
     ({"food": cells(5, 5)}, '{"x":4,"y":4}],"food_chance"'),
     ({"width": 25, "height": 25, "food": cells(25, 25)}, '{"x":24,"y":24}],"food_chance"'),
-    *[
-        ({"food": food}, None)
-        for food in (
-            None,
-            {},
-            [[1, 1]],
-            [{"x": 1}],
-            cells(6, 1),
-            cells(1, 6),
-            cells(5, 5) + cells(1, 1),
-            [{"x": -1, "y": 0}],
-        )
-    ],
+    *[({"food": food}, None) for food in NO_FOOD_LISTS],
     *[({"mode": mode}, '"mode":"%s"' % mode) for mode in ("standard", "solo", "constrictor")],
     *[({"mode": mode}, None) for mode in ("Solo", "royale", "", 0, None)],
 ]
