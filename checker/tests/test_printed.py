@@ -101,9 +101,7 @@ NO_PLANS = [
 
 
 def run_check(text: str, *words: str) -> tuple[int, list[str], str]:
-    ran = subprocess.run(
-        [CHECK, "-", *words], input=text.encode(), capture_output=True
-    )
+    ran = subprocess.run([CHECK, "-", *words], input=text.encode(), capture_output=True)
     return ran.returncode, ran.stdout.decode().splitlines(), ran.stderr.decode()
 
 
@@ -175,16 +173,14 @@ def test_json() -> None:
 
 
 def test_a_file_that_cannot_be_read() -> None:
-    ran = subprocess.run(
-        [CHECK, "no such file"], capture_output=True, text=True
-    )
+    ran = subprocess.run([CHECK, "no such file"], capture_output=True, text=True)
     assert (ran.returncode, ran.stdout) == (2, "")
     assert ran.stderr == "arena-check: no such file: No such file or directory\n"
 
 
-def test_a_python_without_jsonschema_hands_over_to_debians():
+def test_a_python_without_jsonschema_hands_over_to_debians() -> None:
     """`-S` leaves out all installed packages."""
-    words = [sys.executable, "-S", CHECK, "examples/first_file.jsonl"]
+    words = [sys.executable, "-S", str(CHECK), "examples/first_file.jsonl"]
     ran = subprocess.run(words, cwd=ROOT, capture_output=True, text=True)
     assert (ran.returncode, ran.stderr) == (1, "")
     assert ran.stdout.endswith(

@@ -64,7 +64,7 @@ def ways_of(text: str) -> list[int]:
 
 def copy_of_tree(folder: Path, program: Path) -> Path:
     """Copies the files that git tracks, and the program as the built one."""
-    words = ["git", "-C", ROOT, "ls-files", "-z"]
+    words = ["git", "-C", str(ROOT), "ls-files", "-z"]
     tracked = subprocess.run(words, capture_output=True, text=True, check=True).stdout
     for name in filter(None, tracked.split("\0")):
         (folder / name).parent.mkdir(parents=True, exist_ok=True)

@@ -23,8 +23,8 @@ OURS = re.compile(
 )
 WITH_COMMANDS = ("./arena", "ladder/ladder")
 # Programs whose --help lists their options.
-WITH_HELP = ("./arena", "ladder/ladder", "checker/arena-check", "examples/round_robin.py")
-WITH_HELP += ("examples/split.py", "examples/learn.py", "benches/measure.py", "benches/live.py")
+WITH_HELP = ["./arena", "ladder/ladder", "checker/arena-check", "examples/round_robin.py"]
+WITH_HELP += ["examples/split.py", "examples/learn.py", "benches/measure.py", "benches/live.py"]
 RUN = (
     ("docs/FIRST_FILE.md", "The tournament"),
     ("docs/FIRST_FILE.md", "One game alone"),

@@ -96,7 +96,10 @@ def test_standings_have_three_forms(played: Path) -> None:
         *("bot games won drawn lost turns Elo ± median 99 % missed by cause".split())
     ]
     assert [line.split()[0] for line in table[1:-2]] == [row["bot"] for row in rows]
-    assert table[-1] == "the seed 1 comes from the configuration: anyone who knows it can predict what is drawn"
+    assert (
+        table[-1]
+        == "the seed 1 comes from the configuration: anyone who knows it can predict what is drawn"
+    )
     assert [{key: str(value) for key, value in row.items()} for row in rows] == texts
     assert sum(row["games"] for row in rows) == 30
     assert sum(row["wins"] for row in rows) <= 10

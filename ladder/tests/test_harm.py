@@ -106,7 +106,9 @@ class Judged:
             self.faults.append(f"{what} was not asked, or could not read what it was asked")
         elif answer.cause is None:
             if answer.latency > measured + starved + MOST_EXCESS:
-                self.faults.append(f"{what} gets a latency of {answer.latency} ms and took {measured:.0f}")
+                self.faults.append(
+                    f"{what} gets a latency of {answer.latency} ms and took {measured:.0f}"
+                )
         elif answer.cause == "late" and measured + starved > TIMEOUT - MARGIN:
             self.excused += 1
         else:

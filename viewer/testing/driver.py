@@ -80,9 +80,7 @@ class Driver:
                 time.sleep(POLL_SECONDS)
         return self.port is not None
 
-    def ask(
-        self, method: str, path: str, body: Any = None, seconds: float = ANSWER_SECONDS
-    ) -> Any:
+    def ask(self, method: str, path: str, body: Any = None, seconds: float = ANSWER_SECONDS) -> Any:
         """The value of its answer. Raises NoAnswer without one, and RuntimeError for a fault."""
         connection = http.client.HTTPConnection("127.0.0.1", self.port, timeout=seconds)
         try:

@@ -3,7 +3,9 @@
 import subprocess
 import sys
 import time
+from collections.abc import Callable, Iterator
 from pathlib import Path
+from typing import Any
 
 import pytest
 from testing import chromium, driver
@@ -34,17 +36,20 @@ server.serve_forever()
 SLEEPS = "time.sleep(300)\n"
 
 
+Acts = Callable[[str], list[driver.Driver]]
+
+
 @pytest.fixture
-def acts(monkeypatch):
+def acts(monkeypatch: pytest.MonkeyPatch) -> Iterator[Acts]:
     """Puts a program in place of chromedriver, and short limits; returns the drivers."""
-    started = []
+    started: list[driver.Driver] = []
 
     class Kept(driver.Driver):
-        def __init__(self, output):
+        def __init__(self, output: Path) -> None:
             super().__init__(output)
             started.append(self)
 
-    def replace(script):
+    def replace(script: str) -> list[driver.Driver]:
         words = [sys.executable, "-c", SAYS_PORT + script] if script else ["true"]
         monkeypatch.setattr(driver, "command", lambda: words)
         return started
@@ -53,13 +58,22 @@ def acts(monkeypatch):
     monkeypatch.setattr(driver, "END_SECONDS", 1)
     monkeypatch.setattr(chromium, "CLOSING_SECONDS", 1)
     ask = driver.Driver.ask
-    monkeypatch.setattr(Kept, "ask", lambda *words, seconds=5: ask(*words, seconds=seconds))
+
+    def ask_briefly(
+        self: driver.Driver, method: str, path: str, body: Any = None, seconds: float = 5
+    ) -> Any:
+        return ask(self, method, path, body, seconds)
+
+    monkeypatch.setattr(Kept, "ask", ask_briefly)
     yield replace
     assert started and all(it.process.returncode is not None for it in started)
-    assert not any(driver.processes_of(it.process.pid) for it in started)
+    ends = time.monotonic() + 10  # a killed process ends when it runs next
+    while any(driver.processes_of(it.process.pid) for it in started):
+        assert time.monotonic() < ends
+        time.sleep(0.02)
 
 
-def test_driver_that_says_no_port_is_given_up(acts, monkeypatch):
+def test_driver_that_says_no_port_is_given_up(acts: Acts, monkeypatch: pytest.MonkeyPatch) -> None:
     monkeypatch.setattr(driver, "START_SECONDS", 1)
     started = acts(SLEEPS)
     with pytest.raises(driver.NoAnswer, match="said no port within 1 s"):
@@ -67,7 +81,9 @@ def test_driver_that_says_no_port_is_given_up(acts, monkeypatch):
     assert len(started) == 1
 
 
-def test_driver_that_ends_at_once_is_started_again(acts, monkeypatch):
+def test_driver_that_ends_at_once_is_started_again(
+    acts: Acts, monkeypatch: pytest.MonkeyPatch
+) -> None:
     """It does so if another program took its port."""
     monkeypatch.setattr(driver, "START_SECONDS", 2)
     started = acts("")
@@ -76,7 +92,7 @@ def test_driver_that_ends_at_once_is_started_again(acts, monkeypatch):
     assert len(started) > 1
 
 
-def test_driver_that_accepts_and_never_answers_is_ended_and_started_once_more(acts):
+def test_driver_that_accepts_and_never_answers_is_ended_and_started_once_more(acts: Acts) -> None:
     """With its children, and also if it does not heed SIGTERM."""
     started = acts(IS_DEAF + HAS_CHILD + LISTENS + SLEEPS)
     began = time.monotonic()
@@ -85,7 +101,7 @@ def test_driver_that_accepts_and_never_answers_is_ended_and_started_once_more(ac
     assert len(started) == 2 and time.monotonic() - began < 120
 
 
-def test_command_without_an_answer_fails_its_test_and_not_the_next_one(acts):
+def test_command_without_an_answer_fails_its_test_and_not_the_next_one(acts: Acts) -> None:
     started = acts(ANSWERS)
     browser = chromium.Browser()
     for count in (1, 2):
@@ -101,7 +117,7 @@ def test_command_without_an_answer_fails_its_test_and_not_the_next_one(acts):
     assert not browser.folder.exists()
 
 
-def test_driver_that_writes_much_waits_for_no_reader(acts):
+def test_driver_that_writes_much_waits_for_no_reader(acts: Acts) -> None:
     started = acts(ANSWERS)
     browser = chromium.Browser()
     assert browser.run("return 1") == {"sessionId": "a"}
@@ -118,8 +134,8 @@ os.kill(os.getpid(), signal.SIGKILL)
 """
 
 
-def test_driver_ends_when_the_tests_are_killed(tmp_path):
-    words = [sys.executable, "-c", KILLED, SAYS_PORT + LISTENS + SLEEPS, tmp_path / "output"]
+def test_driver_ends_when_the_tests_are_killed(tmp_path: Path) -> None:
+    words = [sys.executable, "-c", KILLED, SAYS_PORT + LISTENS + SLEEPS, str(tmp_path / "output")]
     viewer = Path(driver.__file__).resolve().parent.parent
     said = subprocess.run(words, env={"PYTHONPATH": str(viewer)}, stdout=subprocess.PIPE).stdout
     ends = time.monotonic() + 60

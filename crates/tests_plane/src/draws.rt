@@ -1,4 +1,5 @@
 //! Pseudo-random numbers from a fixed seed.
+ghost use Rattle.std.specs.Prelude.{◌≤◌};
 
 /// A pseudo-random sequence from a fixed seed.
 #[derive(Clone, Copy)]
@@ -13,12 +14,17 @@ impl Draws {
     }
 
     /// A number below `below`; 0 if that is 0.
-    pub fn next(&mut self, below: u64) -> u64 {
+    pub fn next(&mut self, below: u64) -> u64
+        ensures { result ≤ below }
+    {
         self.state = self
             .state
             .wrapping_mul(6_364_136_223_846_793_005)
             .wrapping_add(1_442_695_040_888_963_407);
-        (self.state >> 33).checked_rem(below).unwrap_or(0)
+        if below == 0 {
+            return 0;
+        }
+        (self.state >> 33) % below
     }
 
     /// A number from `low` on, one of `count`.
