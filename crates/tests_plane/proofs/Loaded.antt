@@ -1,5 +1,5 @@
 -- A stepper that was made that of a legal board, and the view of a game with that last board.
-use Rattle.std.proofs.Common.{◌≡◌, List, ℕ, Some, None, refl, sym, ap, subst, ◌∙◌}
+use Rattle.std.proofs.Common.{◌≡◌, List, ℕ, Some, refl, sym, ap, subst, ◌∙◌}
 use Rattle.std.specs.Prelude.{true, option_map}
 use Rattle.bs_board.specs.declared.boards.board.Board.{Board}
 use Rattle.bs_board.specs.boards.Legal.{IsLegal}
