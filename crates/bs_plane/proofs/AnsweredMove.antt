@@ -24,8 +24,9 @@ use Rattle.bs_game.specs.View.{answer_of, answer_with, shown_as_new}
 use Rattle.bs_game.proofs.Acceptance.{move_is_early, next_is_shown}
 use Rattle.bs_game.proofs.Games.{board_charge_small, legal_size_rounds}
 use Rattle.bs_plane.specs.declared.stepper.Stepper.{Stepper}
-use Rattle.bs_plane.specs.Answered.{FollowsEffect, IsLastOf}
+use Rattle.bs_plane.specs.Answered.{IsLastOf}
 use Rattle.bs_plane.specs.Following.{Follows, IsNextRecord}
+use Rattle.bs_plane.specs.inner.Answered.{FollowsEffect}
 
 -- ---- the charge of a record
 

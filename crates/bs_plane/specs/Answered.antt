@@ -3,13 +3,9 @@ use Rattle.std.specs.Prelude.{◌≡◌, ℕ, List, Some, None, option_map}
 use Rattle.bs_board.specs.declared.commands.command.Command.TheVariants as command
 use Rattle.bs_board.specs.commands.Orders.{Orders}
 use Rattle.bs_board.specs.records.Record.{record_of}
-use Rattle.bs_game.specs.declared.reply.Effect.{Effect}
-use Rattle.bs_game.specs.declared.reply.Effect.TheVariants as effect
 use Rattle.bs_game.specs.declared.view.View.{View}
 use Rattle.bs_game.specs.Reasons.{first_reason}
 use Rattle.bs_game.specs.View.{IsFitView}
-use Rattle.bs_plane.specs.declared.stepper.Stepper.{Stepper}
-use Rattle.bs_plane.specs.Following.{Follows, IsLost}
 
 -- a view with that quota and that charge that allows the move, and whose last board has that record
 pub record IsLastOf (most charged : ℕ) (orders : Orders) (bytes : List ℕ) (view : View) : Type 0 where
@@ -18,10 +14,3 @@ pub record IsLastOf (most charged : ℕ) (orders : Orders) (bytes : List ℕ) (v
   pub quota : view.quota ≡ most
   pub charge : view.charge ≡ charged
   pub last : option_map record_of view.last ≡ Some bytes
-
--- after an answer the stepper follows the record that is added; else it is of no board
-abbrev pub FollowsEffect : Effect → Stepper → Type 0
-FollowsEffect effect.Keep stepper = IsLost stepper
-FollowsEffect (effect.Add bytes) stepper = Follows stepper bytes
-FollowsEffect effect.Trim stepper = IsLost stepper
-FollowsEffect effect.Drop stepper = IsLost stepper

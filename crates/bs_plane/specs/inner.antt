@@ -1,4 +1,5 @@
 -- What private contracts cite, and no public one.
+pub mod Answered
 pub mod Cache
 pub mod Food
 pub mod Onward

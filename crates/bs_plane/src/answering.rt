@@ -12,8 +12,9 @@ ghost use Rattle.bs_game.specs.declared.view.View.{View as AnyView};
 ghost use Rattle.bs_game.specs.Game.{board_charge};
 ghost use Rattle.bs_game.specs.Law.{IsFitEffect};
 ghost use Rattle.bs_game.specs.View.{answer_of, answer_with};
-ghost use Rattle.bs_plane.specs.Answered.{FollowsEffect, IsLastOf};
+ghost use Rattle.bs_plane.specs.Answered.{IsLastOf};
 ghost use Rattle.bs_plane.specs.Following.{Follows, IsLost, IsNextRecord};
+ghost use Rattle.bs_plane.specs.inner.Answered.{FollowsEffect};
 
 use crate::stepper::Stepper;
 use bs_block::round_up;

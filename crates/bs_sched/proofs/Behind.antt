@@ -11,13 +11,12 @@ use Rattle.bs_heap.proofs.HeldBlocks.{leaves_then}
 use Rattle.bs_pool.specs.declared.owned.Owned.{Owned}
 use Rattle.bs_pool.specs.Ledger.{Ledger, drawn, held, reserved}
 use Rattle.bs_sched.specs.declared.game.Game.TheInside.{Inside}
-use Rattle.bs_sched.specs.Answering.{next_answer}
 use Rattle.bs_sched.specs.Frames.{flattened}
 use Rattle.bs_sched.specs.Game.{GameView}
 use Rattle.bs_sched.specs.Lane.{Lane}
 use Rattle.bs_sched.specs.MoveParts.{PartView}
 use Rattle.bs_sched.specs.Storage.{packing_after, pool_after}
-use Rattle.bs_sched.specs.inner.Answering.{frame_numbers, number_behind, pool_here, with_frames}
+use Rattle.bs_sched.specs.inner.Answering.{frame_numbers, next_answer, number_behind, pool_here, with_frames}
 use Rattle.bs_sched.specs.inner.Frames.{LeavesBut}
 use Rattle.bs_sched.specs.inner.Game.{HasBlocks, IsGame, game_in, lane_at}
 use Rattle.bs_sched.specs.inner.MoveParts.{number_of}

@@ -14,7 +14,7 @@ use Rattle.bs_game.specs.View.{answer_of}
 use Rattle.bs_heap.specs.Heap.{Heap, with_index_room}
 use Rattle.bs_sched.specs.declared.event.Event.TheVariants as event
 use Rattle.bs_sched.specs.declared.game.Game.TheInside.{Inside}
-use Rattle.bs_sched.specs.Answering.{begin_job, begun, next_answer}
+use Rattle.bs_sched.specs.Answering.{begin_job, begun}
 use Rattle.bs_sched.specs.Courses.{IsRight}
 use Rattle.bs_sched.specs.Game.{GameView}
 use Rattle.bs_sched.specs.Inputs.{input_for}
@@ -22,7 +22,7 @@ use Rattle.bs_sched.specs.Lane.{Lane, answered, is_ready, lane_command, lane_vie
 use Rattle.bs_sched.specs.MoveParts.{PartView, PartsView}
 use Rattle.bs_sched.specs.declared.stage.Stage.{Stage}
 use Rattle.bs_sched.specs.Storage.{packing_after}
-use Rattle.bs_sched.specs.inner.Answering.{game_here}
+use Rattle.bs_sched.specs.inner.Answering.{game_here, next_answer}
 use Rattle.bs_sched.specs.inner.Answers.{input_in}
 use Rattle.bs_sched.specs.inner.Game.{IsGame, KeepsBoards, game_in, lane_at}
 use Rattle.bs_sched.specs.inner.Frames.{idle_frames}

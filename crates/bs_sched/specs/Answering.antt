@@ -2,8 +2,6 @@
 use Rattle.std.specs.Prelude.{◌≡◌, ℕ, ◌<◌, ◌≤◌, true, false, if◌then◌else◌, List, [], ◌∷◌, ◌++◌, length, map, nat_eq}
 use Rattle.std.specs.List.{range_with_len}
 use Rattle.bs_game.specs.Game.{last_board}
-use Rattle.bs_game.specs.declared.reply.Answer.{Answer}
-use Rattle.bs_game.specs.View.{answer_of}
 use Rattle.bs_fiber.specs.declared.job.JobKind.TheVariants as kind
 use Rattle.bs_fiber.specs.declared.job.JobName.{JobName}
 use Rattle.bs_fiber.specs.Work.{parts_of, snakes_in}
@@ -11,7 +9,7 @@ use Rattle.bs_sched.specs.declared.event.Event.{Event}
 use Rattle.bs_sched.specs.declared.event.Event.TheVariants as event
 use Rattle.bs_sched.specs.Core.{CoreView}
 use Rattle.bs_sched.specs.Machine.{is_busy, is_enabled_there, lane_of}
-use Rattle.bs_sched.specs.Lane.{Lane, goes_on, is_idle, lane_command, lane_view, with_taken}
+use Rattle.bs_sched.specs.Lane.{Lane, goes_on, is_idle, with_taken}
 use Rattle.bs_sched.specs.Parts.{part_job}
 
 abbrev pub begin_job : ℕ → JobName
@@ -23,10 +21,6 @@ join_job game = record { game = game; kind = kind.Join; part = 0 }
 -- the lane once its next command is begun, by whatever worker
 abbrev pub begun : Lane → Lane
 begun x = with_taken 0 kind.Begin 0 x
-
--- the answer to the next command
-abbrev pub next_answer : Lane → Answer
-next_answer x = answer_of (lane_view (begun x)) (lane_command (begun x))
 
 -- the number of the parts of the next command, 0 if it is no move that goes on
 abbrev pub next_parts : Lane → ℕ

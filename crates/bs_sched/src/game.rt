@@ -25,8 +25,8 @@ ghost use Rattle.bs_sched.specs.Keyed.{IsKeyAt, IsKeyOf};
 ghost use Rattle.bs_sched.specs.inner.Keyed.{HasKeys};
 ghost use Rattle.bs_sched.specs.Lane.{goes_on, is_idle, is_in_parts, is_out, is_quiet, is_ready, kept_of, lane_command, lane_view, may_leave, with_taken};
 ghost use Rattle.bs_sched.specs.inner.Lane.{HasNoneReady};
-ghost use Rattle.bs_sched.specs.Answering.{AreNextParts, next_answer};
-ghost use Rattle.bs_sched.specs.inner.Answering.{game_here, number_behind, pool_here};
+ghost use Rattle.bs_sched.specs.Answering.{AreNextParts};
+ghost use Rattle.bs_sched.specs.inner.Answering.{game_here, next_answer, number_behind, pool_here};
 ghost use Rattle.bs_sched.specs.Storage.{packing_after, pool_after};
 ghost use Rattle.bs_sched.specs.inner.Turns.{FindsTurn};
 

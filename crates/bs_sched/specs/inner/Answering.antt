@@ -3,11 +3,17 @@ use Rattle.std.specs.Prelude.{ℕ, zero, suc, List, [], ◌∷◌, ◌++◌, fol
 use Rattle.bs_heap.specs.HeldBlocks.{all_given, next_number}
 use Rattle.bs_pool.specs.Ledger.{Ledger, drawn}
 use Rattle.bs_sched.specs.declared.event.Event.{Event}
-use Rattle.bs_sched.specs.Answering.{begun, next_answer}
+use Rattle.bs_game.specs.declared.reply.Answer.{Answer}
+use Rattle.bs_game.specs.View.{answer_of}
+use Rattle.bs_sched.specs.Answering.{begun}
 use Rattle.bs_sched.specs.Game.{GameView}
 use Rattle.bs_sched.specs.Games.{GamesView, after}
-use Rattle.bs_sched.specs.Lane.{answered}
+use Rattle.bs_sched.specs.Lane.{Lane, answered, lane_command, lane_view}
 use Rattle.bs_sched.specs.Storage.{packing_after, pool_after}
+
+-- the answer to the next command
+abbrev pub next_answer : Lane → Answer
+next_answer x = answer_of (lane_view (begun x)) (lane_command (begun x))
 
 -- the pool once that many blocks are drawn for the tag
 abbrev pub with_frames : ℕ → ℕ → Ledger → Ledger

@@ -7,11 +7,11 @@ use Rattle.bs_heap.specs.Heap.{Heap}
 use Rattle.bs_heap.specs.HeldBlocks.{Holds, LeavesOthers}
 use Rattle.bs_heap.specs.Packing.{numbers_of}
 use Rattle.bs_pool.specs.Ledger.{Ledger}
-use Rattle.bs_sched.specs.Answering.{begun, next_answer}
+use Rattle.bs_sched.specs.Answering.{begun}
 use Rattle.bs_sched.specs.Courses.{IsRight}
 use Rattle.bs_sched.specs.Game.{GameView}
 use Rattle.bs_sched.specs.Lane.{Lane, answered, is_ready, lane_outcome}
-use Rattle.bs_sched.specs.inner.Answering.{frame_numbers, game_here, number_behind, with_frames}
+use Rattle.bs_sched.specs.inner.Answering.{frame_numbers, game_here, next_answer, number_behind, with_frames}
 use Rattle.bs_sched.specs.inner.Frames.{LeavesBut}
 use Rattle.bs_sched.specs.inner.Game.{HasBlocks, lane_at}
 use Rattle.bs_sched.specs.inner.Insides.{IsRightWithParts}
