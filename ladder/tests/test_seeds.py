@@ -11,6 +11,7 @@ from pathlib import Path
 import pytest
 from served import SMALL, Served, run_ladder, write_config
 
+from arena_ladder.backup import copy_kept
 from arena_ladder.config import config_of
 from arena_ladder.seeds import draw_seed, with_seed
 from arena_ladder.store import StoreFault
@@ -32,6 +33,12 @@ def test_drawn_seed_is_kept_in_the_folder(tmp_path: Path) -> None:
     (tmp_path / "x" / "seed").write_text("")
     with pytest.raises(StoreFault, match="is no seed"):
         with_seed(config)
+
+
+def test_copy_of_a_seed_is_for_its_owner_alone(tmp_path: Path) -> None:
+    draw_seed(tmp_path / "seed")
+    copy_kept(tmp_path / "seed", tmp_path / "copy")
+    assert stat.S_IMODE((tmp_path / "copy").stat().st_mode) == 0o600
 
 
 def test_seed_of_parts_that_begin_at_once_is_one(tmp_path: Path) -> None:

@@ -83,10 +83,10 @@ def copy_running(folder: Path, to: Path, name: str) -> None:
 def copy_kept(source: Path, target: Path) -> None:
     """Copies a file, or a folder of files that may come and go."""
     if source.is_file():
-        shutil.copyfile(source, target)
+        shutil.copy(source, target)  # with its mode, for the seed
     elif source.is_dir():
         target.mkdir()
         for path in source.iterdir():
             if path.suffix != ".unfinished":
                 with suppress(FileNotFoundError):
-                    shutil.copyfile(path, target / path.name)
+                    shutil.copy(path, target / path.name)
