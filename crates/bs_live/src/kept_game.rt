@@ -246,9 +246,7 @@ impl<const CAP: usize> KeptGame<CAP> {
         match &self.last {
             None => unreachable!(),
             Some(last) => {
-                let answer = self
-                    .planes
-                    .answer(alloc, last, orders, self.quota, charge)?;
+                let answer = self.planes.answer(alloc, last, orders, self.quota, charge)?;
                 let Answer { reply, effect } = answer;
                 change_records(&mut self.heap, &mut self.pool, &effect);
                 renew(&mut self.last, effect);

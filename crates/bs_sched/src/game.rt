@@ -570,11 +570,7 @@ impl<const CAP: usize> Game<CAP> {
     }
 
     /// The answer to the next command.
-    fn next_answer(
-        &self,
-        alloc: Global,
-        planes: &mut PlaneCache,
-    ) -> Result<Answer, AllocError>
+    fn next_answer(&self, alloc: Global, planes: &mut PlaneCache) -> Result<Answer, AllocError>
         requires { is_ready self.now.lane kind.Begin 0 ≡ true }
         ensures { IfOk result (λ answer. answer ≡ next_answer self.now.lane) }
     {

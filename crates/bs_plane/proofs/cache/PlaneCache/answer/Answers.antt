@@ -7,9 +7,11 @@ use Rattle.bs_plane.proofs.cache.PlaneCache.answer.Goals as goal
 
 pub play-requires : goal.play-requires
 play-requires c =
-    let view = c.requires in
-    (view.0, view_allows c.args.last.now c.is_over.result c.turn.result c.is_over.ensures c.turn.ensures c.args.quota c.args.charge c.args.orders.now c.check_move.result
-    c.check_move.ensures c.in-None.is view.0 view.1)
+    let view = c.requires in (
+      view.0,
+      view_allows c.args.last.now c.is_over.result c.turn.result c.is_over.ensures c.turn.ensures c.args.quota c.args.charge c.args.orders.now c.check_move.result
+          c.check_move.ensures c.in-None.is view.0 view.1,
+    )
 
 pub returns-in-Some-clause-value : goal.returns-in-Some-clause-value
 returns-in-Some-clause-value c view of =
