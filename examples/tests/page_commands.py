@@ -27,7 +27,7 @@ class Block:
     item: int
 
     def is_run(self, tree: Path) -> bool:
-        word = self.lines[0].split()[0]
+        word = self.lines[0].split()[0].lstrip("(")
         return shutil.which(word) is not None or ("/" in word and (tree / word).is_file())
 
 
@@ -51,10 +51,12 @@ def blocks_of(text: str) -> Iterator[Block]:
 
 def section_of(text: str, heading: str) -> str:
     """The text below a heading, to the next one of its level or above."""
-    found = re.search(rf"^(#+) {re.escape(heading)}$(.*?)(?=^#{{1,2}} |\Z)", text, re.M | re.S)
+    found = re.search(rf"^(#+) {re.escape(heading)}$", text, re.M)
     if found is None:
         raise WrongPage(f"there is no heading {heading!r}")
-    return found[2]
+    below = text[found.end() :]
+    end = re.search(rf"^#{{1,{len(found[1])}}} ", below, re.M)
+    return below[: end.start()] if end else below
 
 
 def ways_of(text: str) -> list[int]:
