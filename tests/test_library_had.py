@@ -1,5 +1,5 @@
-"""Tests of how the library is installed: the names that it exports, pkg-config, the wheel, the packages,
-and the examples; for tests/library."""
+"""Tests of how the library is installed: the names that it exports, pkg-config, the wheel, the
+packages, and the examples; for tests/library."""
 import re
 import shutil
 import sys
