@@ -154,7 +154,7 @@ def test_another_ladder_is_not_played_in_the_folder(
     other.write_text(config.read_text().replace("seed = 1", "seed = 7"))
     ran = run_ladder("play", other, "--program", program)
     assert ran.returncode == 1
-    assert ran.stderr == f"ladder: {played / 'results.sqlite'} is of another ladder: seed differ\n"
+    assert ran.stderr == f"ladder: {played / 'results.sqlite'} is of another ladder: seed differs\n"
 
 
 def test_file_of_another_game_is_not_gone_on_with(
