@@ -46,7 +46,7 @@ def test_what_is_left_out_is_usual() -> None:
         ({"at_once": 65}, "at_once is 65"),
         ({"games_a_bot": 0}, "games_a_bot is 0, and has to be a number from 1 to 64"),
         ({"sead": 4}, "no such member: sead"),
-        ({"folder": ""}, "folder is missing or no text"),
+        ({"folder": ""}, "folder is missing or not a text"),
         ({"bot": []}, "1 to 200 tables"),
         ({"bot": BOTS[:1]}, "a game of 2 snakes wants as many bots"),
         ({"bot": [BOTS[0], BOTS[0]]}, "two bots are named bot0"),
