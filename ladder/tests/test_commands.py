@@ -259,6 +259,21 @@ def test_hosts_that_die_at_once_are_given_up(config: Path, tmp_path: Path) -> No
     assert len(starts.read_text().splitlines()) == 6
 
 
+@pytest.mark.parametrize(
+    "words, said",
+    [
+        (("play", "x", "--rounds", "0"), "--rounds: '0' is not a whole number of 1 or more"),
+        (("play", "x", "--hours", "nan"), "--hours: 'nan' is not a number of hours"),
+        (("play", "x", "--part", "5/4"), "--part: '5/4' is not a part, such as 2/4"),
+        (("play", "x", "--page", "a:b"), "--page: 'a:b' is neither a port nor HOST:PORT"),
+        (("sprt", "x", "a", "b", "--elo1", "x"), "--elo1: 'x' is not a number from -2000 to 2000"),
+    ],
+)
+def test_refused_option_says_why(words: tuple[str, ...], said: str) -> None:
+    ran = run_ladder(*words)
+    assert ran.returncode == 2 and ran.stderr.endswith(f": argument {said}\n"), ran.stderr
+
+
 def test_faults_are_one_line(program: Path, config: Path, tmp_path: Path) -> None:
     text = config.read_text().replace("results", "faults")
     config = tmp_path / "faults.toml"

@@ -171,7 +171,7 @@ def run_merge(given: argparse.Namespace) -> int:
 def rounds_of(word: str) -> int:
     rounds = int(word) if word.isascii() and word.isdigit() else 0
     if not 1 <= rounds <= ENDLESS:
-        raise argparse.ArgumentTypeError(f"{word!r} is not a number from 1 to {ENDLESS:,}")
+        raise argparse.ArgumentTypeError(f"{word!r} is not a whole number of 1 or more")
     return rounds
 
 
