@@ -87,7 +87,7 @@ def command_lines(bots, turns, seed, rounds=1, most_open=None):
         if len(name.encode()) > LONGEST_NAME:
             raise ValueError(f"the name of the game {name} has more than {LONGEST_NAME} bytes")
     if not games:
-        raise ValueError(f"{rounds} rounds of {len(bots)} bots have no game")
+        raise ValueError("there is no game: a round wants two bots or more")
     if len(games) != rounds * len(bots) * (len(bots) - 1) // 2:
         raise ValueError("two games have the same name")
     played = {bot: list(islice(cycle(moves), turns)) for bot, moves in bots.items()}
@@ -133,7 +133,7 @@ def read_bots(paths):
 
 def summary(games, turns, most_open=None):
     """The line for the standard error about a file of `games` games."""
-    size = f"{games} games of {turns} moves"
+    size = f"{games} game{'s' * (games != 1)} of {turns} move{'s' * (turns != 1)}"
     if games > MOST_GAMES and not most_open:
         many = f"a plan has at most {MOST_GAMES}"
         return f"{size}: {many}, so give it to examples/split.py, or use --open"

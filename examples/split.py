@@ -275,7 +275,9 @@ def split(path: Path, most: int, folder: Path) -> str:
         found = routed(data, plan, starts)
         sizes = write_files(folder, data, plan, found, most)
     summary = [describe_strays(found.strays)] if found.strays else []
-    summary.append(f"{len(plan.games)} games in {len(sizes)} files of at most {most}")
+    games, files = len(plan.games), len(sizes)
+    counts = f"{games} game{'s' * (games != 1)} in {files} file{'s' * (files != 1)}"
+    summary.append(f"{counts} of at most {most}")
     if sizes:
         blocks, memory = map(max, zip(*sizes))
         summary[-1] += f": --array=1-{len(sizes)} --mem={memory} ({blocks} blocks at most)"

@@ -6,7 +6,7 @@
 PATH is relative to the root of the repository, and an OPTION one of a conftest.py there. A TEST is
 a part of the name of a test or of its file, or a class with a test, such as Stays.test_names; all
 run if none is given. pytest and jsonschema are installed from Debian's packages if they are
-missing. The status is pytest's, or 1 if they can't be had, after a line that says so.
+missing. The status is pytest's, or 1 if they can't be installed, after a line that says so.
 """
 import os
 import subprocess

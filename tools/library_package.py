@@ -1,4 +1,4 @@
-"""The Debian packages of the library, for tools/package: libarena-dev and python3-arena-rules."""
+"""The packages of the library, for tools/package: libarena-dev, python3-arena-rules, a wheel."""
 
 import gzip
 import re
@@ -56,6 +56,16 @@ def fill(tree: Path, name: str, write: Callable[[Path, bytes | str], None]) -> N
     to = tree / "lib/python3/dist-packages/arena_rules"
     for path in [*sorted(PYTHON.glob("*.py")), PYTHON / "py.typed", PYTHON / "libarena_rules.so"]:
         write(to / path.name, path.read_bytes())
+
+
+def wheel(into: Path, is_proved: bool) -> str:
+    """Writes the wheel of the module by its own build backend, and returns its name."""
+    sys.path.insert(0, str(PYTHON.parent))
+    import build_wheel
+
+    version = build_wheel.version() + ("" if is_proved else "+unproved")
+    setattr(build_wheel, "version", lambda: version)
+    return build_wheel.build_wheel(str(into))
 
 
 def control(name: str, version: str, is_proved: bool) -> str:

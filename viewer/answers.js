@@ -34,7 +34,7 @@ function hasMissed(id, turn) {
   return wordsOfAnswer(id, turn).startsWith('missed');
 }
 
-/** Fetches JSON that the address names, from the page's own server; null if it can't be had. */
+/** Fetches JSON that the address names, from the page's own server; null if there is none. */
 async function fetchNamed(name) {
   try {
     return JSON.parse(await (await fetchFile(name)).text());

@@ -326,8 +326,8 @@ static inline arena_many_starts arena_starts_of(size_t count, arena_settings set
  * arena_small_start starts each game whose byte of `which` is not 0, and returns how many started.
  * One whose settings or cells are not those of a first board is over, with no living snake.
  *
- * arena_small_step plays a turn in each game that is not over and is below turn 10,000. Whoever
- * plays a map changes its hazards between turns: a game has no room for them.
+ * arena_small_step plays a turn in each game that is not over and is below turn 10,000. A
+ * caller that plays a map changes its hazards between turns: a game has no room for them.
  *
  * arena_small_planes writes the planes of game i into the i-th `each` bytes. A plane has width *
  * height bytes, row by row from the bottom. The first has 1 where food is. Then come those of the

@@ -68,7 +68,7 @@ def test_a_seed_gives_one_file():
 
 
 def test_one_bot_has_no_game():
-    with pytest.raises(ValueError, match="1 rounds of 1 bots have no game"):
+    with pytest.raises(ValueError, match="a round wants two bots or more"):
         lines("a")
 
 

@@ -154,7 +154,7 @@ def test_another_ladder_is_not_played_in_the_folder(
     other.write_text(config.read_text().replace("seed = 1", "seed = 7"))
     ran = run_ladder("play", other, "--program", program)
     assert ran.returncode == 1
-    assert ran.stderr == f"ladder: {played / 'results.sqlite'} is of another ladder: seed differ\n"
+    assert ran.stderr == f"ladder: {played / 'results.sqlite'} is of another ladder: seed differs\n"
 
 
 def test_file_of_another_game_is_not_gone_on_with(
@@ -257,6 +257,21 @@ def test_hosts_that_die_at_once_are_given_up(config: Path, tmp_path: Path) -> No
     told = complaints(ran.stderr).splitlines()
     assert told == [f"{death}; its games go on in another"] * 5 + [death]
     assert len(starts.read_text().splitlines()) == 6
+
+
+@pytest.mark.parametrize(
+    "words, said",
+    [
+        (("play", "x", "--rounds", "0"), "--rounds: '0' is not a whole number of 1 or more"),
+        (("play", "x", "--hours", "nan"), "--hours: 'nan' is not a number of hours"),
+        (("play", "x", "--part", "5/4"), "--part: '5/4' is not a part, such as 2/4"),
+        (("play", "x", "--page", "a:b"), "--page: 'a:b' is neither a port nor HOST:PORT"),
+        (("sprt", "x", "a", "b", "--elo1", "x"), "--elo1: 'x' is not a number from -2000 to 2000"),
+    ],
+)
+def test_refused_option_says_why(words: tuple[str, ...], said: str) -> None:
+    ran = run_ladder(*words)
+    assert ran.returncode == 2 and ran.stderr.endswith(f": argument {said}\n"), ran.stderr
 
 
 def test_faults_are_one_line(program: Path, config: Path, tmp_path: Path) -> None:

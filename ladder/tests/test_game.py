@@ -164,7 +164,7 @@ def test_requests_are_exported_as_the_bots_got_them(program: Path, tmp_path: Pat
                 if turn in (0, 1, 10, 11, 12, 29):
                     assert request_body(config.folder, NAME, bot, turn, program) == body
             assert len(bots.bodies) == 60
-            for turn, why in ((30, "was asked in the turns 0 to 29"), (-1, "was asked in")):
+            for turn, why in ((30, "no request for turn 30 of"), (-1, "its last is 29")):
                 with pytest.raises(StoreFault, match=why):
                     request_body(config.folder, NAME, "left", turn, program)
             kept_file(config.folder, NAME).unlink()

@@ -145,11 +145,11 @@ def test_bot_that_left_is_gone_once_its_last_game_has_ended(tmp_path: Path) -> N
     config = ladder_config(tmp_path, {f"b{at}": f"http://127.0.0.1:9/{at}" for at in range(3)})
     heard: list[tuple[list[str], set[str]]] = []
 
-    def heed(changes: list[Change], gone: set[str]) -> None:
+    def on_changes(changes: list[Change], gone: set[str]) -> None:
         heard.append(([it.bot for it in changes], gone))
 
     async def work(store: Store, executor: ThreadPoolExecutor) -> None:
-        source = Endless(config, store, executor, heed, time.monotonic() + 60)
+        source = Endless(config, store, executor, on_changes, time.monotonic() + 60)
         fixture = await source.begin()
         assert fixture is not None and heard[1:] == [(["b0", "b1", "b2"], set())]
         (idle,) = {"b0", "b1", "b2"} - set(fixture.bots)
@@ -158,7 +158,7 @@ def test_bot_that_left_is_gone_once_its_last_game_has_ended(tmp_path: Path) -> N
         replace(tmp_path, one, "http://127.0.0.1:9/new")
         await source.begin()
         assert heard.pop() == ([idle, f"{one}@2"], {idle})
-        again = Endless(config, store, executor, heed, time.monotonic() + 60)
+        again = Endless(config, store, executor, on_changes, time.monotonic() + 60)
         assert heard.pop()[1] == {idle}
         store.add([finished(fixture.name, *fixture.bots)])
         await again.begin()
@@ -192,7 +192,7 @@ def test_run_keeps_nothing_of_replaced_bots(tmp_path: Path) -> None:
                 old, new = f"b@{version}" if version else "b", f"b@{version + 1}"
                 counts.count({old: Answer("up", None, 7)}, None)
                 change = Change(version, "replace", new, 0, f"http://{place}/{new}", old)
-                run.heed([change], {old})
+                run.on_changes([change], {old})
                 await until(lambda: new in context.looks and not run.asking)
             assert server.connections == REPLACES
             assert set(context.urls) == {"a", new} and set(context.looks) == {new}

@@ -265,5 +265,5 @@ def test_map_that_stays_gives_nothing_later() -> None:
     assert [map_members(rings, NAME, turn) for turn in range(50)] == [{}] * 50
     with pytest.raises(ConfigFault, match="hazards of its own"):
         config("hz_rings", hazards=[[1, 1]])
-    with pytest.raises(ConfigFault, match="nobody knows shrink_every"):
+    with pytest.raises(ConfigFault, match="no such member: shrink_every"):
         config("hz_rings", shrink_every=3)

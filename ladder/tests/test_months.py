@@ -81,7 +81,7 @@ def test_ladder_goes_on_behind_the_old_last_number(
     with closing(open_store(folder)) as store:
         assert store.has_game("r1000000-t001") and store.has_game("r1000002-t001")
     ran = run_ladder("play", config, "--rounds", "14", "--program", program)
-    assert "it has its 14 games: --rounds, or `rounds`, lets it go on" in ran.stdout
+    assert "it ends at 14 games: a higher --rounds, or `rounds`, lets it go on" in ran.stdout
 
 
 def test_folder_of_version_1_1_goes_on(program: Path, small_bots: Served, tmp_path: Path) -> None:
@@ -110,7 +110,7 @@ def test_ratings_of_version_1_0_are_points_to_begin_with(
     config = config_for(tmp_path / "x.toml", folder, small_bots, pairing="rating")
     played = [run_ladder("play", config, "--rounds", "1", "--program", program)]
     ran = run_ladder("carry", old, folder)
-    assert ran.stdout.startswith("ladder: 4 bots have the points that they had in"), ran.stderr
+    assert ran.stdout.startswith("ladder: 4 bots got their Elo in"), ran.stderr
     points: dict[str, int] = {}
     with closing(open_store(folder)) as store:
         (first,) = store.outcomes()

@@ -11,6 +11,7 @@ import subprocess
 import time
 import urllib.error
 import urllib.request
+from argparse import ArgumentTypeError
 from collections.abc import Callable, Iterator
 from contextlib import contextmanager
 from pathlib import Path
@@ -74,7 +75,7 @@ def test_addresses_are_of_this_machine_unless_another_is_named() -> None:
     assert address_of("0.0.0.0:8080") == Address("0.0.0.0", 8080)
     assert address_of("[::1]:8080") == Address("::1", 8080)
     for word in ("", "port", "127.0.0.1", "1.2.3.4:", "70000", "-1", "127.0.0.1:x"):
-        with pytest.raises(ValueError, match="no port"):
+        with pytest.raises(ArgumentTypeError, match="neither a port nor"):
             address_of(word)
 
 

@@ -3,6 +3,7 @@
 from __future__ import annotations
 
 import hashlib
+from argparse import ArgumentTypeError
 from collections import Counter
 from itertools import combinations
 from typing import Any
@@ -90,7 +91,7 @@ def test_parts_make_the_whole() -> None:
 
 @pytest.mark.parametrize("word", ["0/4", "5/4", "1", "1/0", "a/b", "-1/4", "1/4/2"])
 def test_words_that_are_no_part(word: str) -> None:
-    with pytest.raises(ValueError, match="is no part"):
+    with pytest.raises(ArgumentTypeError, match="is not a part, such as 2/4"):
         part_of(word)
     assert part_of("2/4") == Part(2, 4)
 

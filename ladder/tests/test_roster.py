@@ -274,7 +274,7 @@ def test_endless_ladder_ends_by_hours_and_by_rounds(program: Path, endless: Path
     assert ran.stdout.startswith("ladder: 3 of 3 games are done, 3 of them now")
     folder = endless.parent / "results"
     refused = {
-        ("add", "seeker", "http://127.0.0.1:1"): "replace it by a new version",
+        ("add", "seeker", "http://127.0.0.1:1"): "already: `replace` takes a new version",
         ("add", "x", "http://a:b@127.0.0.1:1"): "password",
         ("add", "../x", "http://127.0.0.1:1"): "is not 1 to 32 letters",
         ("add", "x", "ftp://127.0.0.1"): "is no address",

@@ -84,6 +84,19 @@ def finished(name: str, *bots: str) -> Outcome:
     return Outcome(name, 1, 40, 43, "0" * 64, finishes)
 
 
+def test_summary_has_one_game_and_more_games_than_the_rounds() -> None:
+    for done, fixtures, said in (
+        (0, 1, "1 of 1 game is done, 1 of them now; 0 turns in "),
+        (0, 0, "1 game is done, 1 of them now; 0 turns in "),
+        (1, 2, "2 of 2 games are done, 1 of them now; 0 turns in "),
+        (2, 2, "3 games are done, 1 of them now; 0 turns in "),
+    ):
+        counts = Counts()
+        counts.begin(done, fixtures)
+        counts.end(finished("r0001-t001", "left", "right"))
+        assert counts.summary()[0].startswith(said)
+
+
 def test_bot_that_answers_slower_with_more_games_is_named() -> None:
     counts = Counts()
     for games in (1, 2):
@@ -100,6 +113,6 @@ def test_bot_that_answers_slower_with_more_games_is_named() -> None:
         counts.count({"slow": Answer("up", None, 80, is_lagged=True)}, None)
     assert counts.summary()[2:] == [
         "the ladder itself was late in 60 turns: play fewer games at once",
-        "slow answers in 15 ms with 1 of its games at once, in 80 ms with 2: a smaller games_a_bot "
-        "may serve it better",
+        "slow answers in 15 ms while it plays 1 game at once, in 80 ms while it plays 2: a smaller "
+        "games_a_bot may serve it better",
     ]

@@ -75,4 +75,4 @@ def test_seed_is_published_once_the_ladder_is_closed(
     assert run_ladder("standings", whole).stdout.endswith(f"\nthe seed was {seed}; {digest}\n")
     assert run_ladder("check", whole, "--program", program).returncode == 0
     more = run_ladder("merge", whole, folder / "part-1-of-2")
-    assert more.returncode == 1 and "of a closed ladder, to which no game is added" in more.stderr
+    assert more.returncode == 1 and "of a closed ladder, which gets no more games" in more.stderr

@@ -242,7 +242,7 @@ def test_folders_that_do_not_fit_are_not_merged(tmp_path: Path) -> None:
     with pytest.raises(StoreFault, match="has no results"):
         merge(tmp_path / "joined", [one, tmp_path / "none"])
     store = open_store(one)
-    with pytest.raises(StoreFault, match="another ladder: seed differ"):
+    with pytest.raises(StoreFault, match="another ladder: seed differs"):
         store.begin({**IDENTITY, "seed": 2}, BOTS)
     store.close()
 

@@ -10,7 +10,7 @@ import pytest
 from rich.console import Console
 
 from arena_ladder.standings import Standing, as_csv, as_table
-from arena_ladder.texts import cell_text, fit_text
+from arena_ladder.texts import cell_text, counted, fit_text
 
 HARMFUL = "a\x1b[2J\x9b1m\r\n\x00\ud800b[red]\u2028c"
 
@@ -37,3 +37,13 @@ def test_names_of_another_folder_do_no_harm_in_any_form() -> None:
     text = io.StringIO()
     Console(file=text, width=200, force_terminal=True, color_system=None).print(as_table(standings))
     assert "=a[2J1m?b[red]c" in text.getvalue() and "\x9b" not in text.getvalue()
+
+
+def test_a_number_agrees_with_its_noun() -> None:
+    assert [counted(it, "game") for it in (0, 1, 2, 2000)] == [
+        "0 games",
+        "1 game",
+        "2 games",
+        "2000 games",
+    ]
+    assert counted(2000, "game", ",") == "2,000 games"

@@ -185,12 +185,12 @@ def test_members_of_tournaments_are_checked() -> None:
     for members, why in (
         ({"snakes": 3}, "a game has 2 snakes"),
         ({"games": 0}, "games is 0"),
-        ({"group": 4}, "nobody knows group"),
+        ({"group": 4}, "no such member: group"),
     ):
         with pytest.raises(ConfigFault, match=why):
             config("swiss", 4, **members)
     assert config("swiss", 4).identity["rounds"] == 2
-    with pytest.raises(ConfigFault, match="nobody knows games"):
+    with pytest.raises(ConfigFault, match="no such member: games"):
         config("round_robin", 4)
 
 

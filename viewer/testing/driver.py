@@ -14,7 +14,7 @@ from typing import Any
 
 START_SECONDS = 60  # until one says its port
 ANSWER_SECONDS = 90  # of a command; the limits of the driver itself are shorter
-END_SECONDS = 10  # from asking it to end until it is killed, and then until that is given up
+END_SECONDS = 10  # from asking it to end until it is killed, and then until nobody waits any more
 POLL_SECONDS = 0.02
 DEATH_SIGNAL = 1  # prctl's option
 SAID = b"started successfully on port "

@@ -93,7 +93,7 @@ def test_driver_that_ends_at_once_is_started_again(
 
 
 def test_driver_that_accepts_and_never_answers_is_ended_and_started_once_more(acts: Acts) -> None:
-    """With its children, and also if it does not heed SIGTERM."""
+    """With its children, and also if it ignores SIGTERM."""
     started = acts(IS_DEAF + HAS_CHILD + LISTENS + SLEEPS)
     began = time.monotonic()
     with pytest.raises(driver.NoAnswer, match="did not answer 2 times: POST /session: .*5 s"):

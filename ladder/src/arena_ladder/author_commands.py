@@ -23,6 +23,7 @@ from arena_ladder.play import Job, play
 from arena_ladder.program import add_program, program_of
 from arena_ladder.seeds import with_seed
 from arena_ladder.store import Store, StoreFault, open_store
+from arena_ladder.texts import counted
 from arena_ladder.view import print_all, step_through
 from arena_ladder.viewer_page import viewer_page
 from arena_ladder.watch import Watch
@@ -99,7 +100,8 @@ def run_games(given: argparse.Namespace) -> int:
         return 0
     for row in rows:
         bots = " - ".join(row["bots"])
-        print(f"{row['game']}  {row['turns']:5} turns  {row['winner'] or '-'}  ({bots})")
+        turns = counted(row["turns"], "turn", "5")
+        print(f"{row['game']}  {turns:11}  {row['winner'] or '-'}  ({bots})")
     return 0
 
 

@@ -199,7 +199,7 @@ class Members:
     def text(self, name: str) -> str:
         value = self.table.pop(name, None)
         if not isinstance(value, str) or not value:
-            raise self.fault(f"{name} is missing or no text")
+            raise self.fault(f"{name} is missing or not a text")
         return value
 
     def words(self, name: str, most: int) -> str:
@@ -226,7 +226,7 @@ class Members:
 
     def finish(self) -> None:
         if self.table:
-            raise self.fault(f"nobody knows {', '.join(sorted(self.table))}")
+            raise self.fault(f"no such member: {', '.join(sorted(self.table))}")
 
 
 def read_config(path: Path) -> Config:
@@ -364,7 +364,7 @@ def bots_of(members: Members) -> tuple[Bot, ...]:
 
 def bot_of(table: Any, place: str) -> Bot:
     if not isinstance(table, dict):
-        raise ConfigFault(f"{place}: a bot is a table")
+        raise ConfigFault(f"{place}: a bot has to be a table, [[bot]]")
     members = Members(table, f"{place}: a bot")
     name, url = members.text("name"), members.text("url")
     ca = members.text("ca") if "ca" in members.table else ""

@@ -111,9 +111,12 @@ def run_gauntlet(given: argparse.Namespace) -> int:
 
 
 def elo_of(word: str) -> float:
-    elo = float(word)
-    if not math.isfinite(elo) or abs(elo) > 2000:
-        raise ValueError(word)
+    try:
+        elo = float(word)
+    except ValueError:
+        elo = math.nan
+    if not -2000 <= elo <= 2000:
+        raise argparse.ArgumentTypeError(f"{word!r} is not a number from -2000 to 2000")
     return elo
 
 

@@ -61,9 +61,9 @@ def restore(store: Store, rated: Rated) -> int:
 class Endless:
     """The source of the games of an endless ladder.
 
-    `heed` is called with the changes of the roster, and with the bots that have left it since and
-    play no more: those that left may play on in games that were drawn before. All that reads the
-    store after the beginning runs in the executor, which has one thread.
+    `on_changes` is called with the changes of the roster, and with the bots that have left it since
+    and play no more: those that left may play on in games that were drawn before. All that reads
+    the store after the beginning runs in the executor, which has one thread.
     """
 
     def __init__(
@@ -71,13 +71,13 @@ class Endless:
         config: Config,
         store: Store,
         executor: Executor,
-        heed: Callable[[list[Change], set[str]], None],
+        on_changes: Callable[[list[Change], set[str]], None],
         ends_at: float,
     ) -> None:
         self.config = config
         self.store = store
         self.executor = executor
-        self.heed = heed
+        self.on_changes = on_changes
         self.ends_at = ends_at
         self.rated = Rated(config.seed, config.snakes)
         self.running = 0
@@ -91,7 +91,7 @@ class Endless:
         self.leaving: set[str] = set()  # bots that left, whose games may go on
         changes = store.changes(0)[: self.rated.changes]
         gone = self.gone_by(changes)
-        heed([it for it in changes if it.bot not in gone], gone)
+        on_changes([it for it in changes if it.bot not in gone], gone)
 
     async def begin(self) -> Fixture | None:
         """The next game, which begins now; None if there is none at the moment."""
@@ -99,7 +99,7 @@ class Endless:
         changes = await loop.run_in_executor(self.executor, self.take_changes)
         gone = self.gone_by(changes)
         if changes or gone:
-            self.heed(changes, gone)
+            self.on_changes(changes, gone)
         found = await loop.run_in_executor(self.executor, self.next)
         self.running += found is not None
         return found

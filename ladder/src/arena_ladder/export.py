@@ -55,7 +55,9 @@ def request_body(folder: Path, game: str, bot: str, turn: int, program: Path) ->
     if finish is None:
         raise StoreFault(f"{bot!r} did not play in {game}")
     if not 0 <= turn < finish.turns:
-        raise StoreFault(f"{bot} was asked in the turns 0 to {finish.turns - 1} of {game}")
+        raise StoreFault(
+            f"{bot} got no request for turn {turn} of {game}: its last is {finish.turns - 1}"
+        )
     heard = heard_in(folder, game)
     if heard is None or len(heard) <= turn:
         raise StoreFault(f"the answers of {game}, which its requests contain, are not kept")

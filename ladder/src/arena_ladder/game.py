@@ -15,6 +15,7 @@ from arena_ladder.map_moves import map_members, opening_members
 from arena_ladder.outcome import Outcome, Tally, finishes_of, tallies_of
 from arena_ladder.pairing import Fixture
 from arena_ladder.payloads import Look, bodies, game_text, living_of, seats_of
+from arena_ladder.texts import counted
 from arena_ladder.watch import Watch
 
 FREE_AT = 1_000_000  # bytes of records; above that all but the last are freed
@@ -105,8 +106,8 @@ class Game:
         """Says that answers of turns were lost, if they were."""
         if turns > 0:
             self.context.watch.say(
-                f"{self.fixture.name} lost the answers of {turns} turns: their times and missed "
-                "moves are not counted"
+                f"{self.fixture.name} lost the answers of {counted(turns, 'turn')}: their times "
+                "and missed moves are not counted"
             )
 
     def is_done(self, board: Board) -> bool:

@@ -12,6 +12,7 @@ from arena_ladder.rated import Rated
 from arena_ladder.roster import change_roster
 from arena_ladder.seasons import begin_season
 from arena_ladder.store import Store, StoreFault, open_store
+from arena_ladder.texts import counted
 
 
 def carry(old: Path, folder: Path) -> str:
@@ -30,7 +31,8 @@ def carry(old: Path, folder: Path) -> str:
             raise StoreFault(f"no bot of {folder} has played in {old}")
         for bot in known:
             store.add_change("points", bot, old=str(ratings[bot]))
-        return f"{len(known)} bots have the points that they had in {old}: {', '.join(known)}"
+        names = ", ".join(known)
+        return f"{counted(len(known), 'bot')} got their Elo in {old} as points: {names}"
 
     return change_roster(folder, work)
 
@@ -38,7 +40,7 @@ def carry(old: Path, folder: Path) -> str:
 def run_backup(given: argparse.Namespace) -> int:
     """Copies a folder, also while it is played."""
     games = backup(given.folder, given.to)
-    print(f"ladder: {given.to} has {games:,} games of {given.folder}")
+    print(f"ladder: {given.to} has {counted(games, 'game', ',')} of {given.folder}")
     return 0
 
 

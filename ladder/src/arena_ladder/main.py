@@ -40,7 +40,7 @@ from arena_ladder.roster_commands import add_roster_commands
 from arena_ladder.seasons import season_of
 from arena_ladder.seeds import seed_line, seed_line_of, with_seed
 from arena_ladder.store import Store, StoreFault, open_store
-from arena_ladder.texts import fit_text
+from arena_ladder.texts import counted, fit_text
 from arena_ladder.tournament_commands import add_tournaments
 from arena_ladder.watch import Watch
 
@@ -102,7 +102,8 @@ def play_config(config: Config, given: argparse.Namespace) -> int:
     remember_program(folder, given)
     with locked(folder), closing(Store(folder)) as store:
         asyncio.run(play_job(job, store, counts, given.page))  # waits for its threads
-    ends = [f"it has its {config.rounds:,} games: --rounds, or `rounds`, lets it go on"]
+    most = counted(config.rounds, "game", ",")
+    ends = [f"it ends at {most}: a higher --rounds, or `rounds`, lets it go on"]
     has_ended = config.is_endless and counts.done >= config.rounds
     for line in [
         *counts.summary(),
@@ -147,34 +148,40 @@ def run_check(given: argparse.Namespace) -> int:
         checked = check(
             given.folder,
             program_of(given, given.folder),
-            lambda games: status.update(f"{games} games checked"),
+            lambda games: status.update(f"{counted(games, 'game')} checked"),
         )
     for name, why in checked.faults.items():
         print(fit_text(f"{name}: {why}"))
     if checked.sums:
         print(fit_text(f"results.sqlite: {checked.sums}"))
-    print(f"{checked.games - len(checked.faults)} of {checked.games} games agree")
+    agreeing = checked.games - len(checked.faults)
+    agree = "agrees" if agreeing == 1 else "agree"
+    print(f"{agreeing} of {counted(checked.games, 'game')} {agree}")
     return 1 if checked.faults or checked.sums else 0
 
 
 def run_merge(given: argparse.Namespace) -> int:
     """Merges folders."""
     added = merge(given.into, given.folders)
-    print(f"ladder: {added} games were added to {given.into}")
+    were = "was" if added == 1 else "were"
+    print(f"ladder: {counted(added, 'game')} {were} added to {given.into}")
     return 0
 
 
 def rounds_of(word: str) -> int:
-    rounds = int(word)
+    rounds = int(word) if word.isascii() and word.isdigit() else 0
     if not 1 <= rounds <= ENDLESS:
-        raise ValueError(word)
+        raise argparse.ArgumentTypeError(f"{word!r} is not a whole number of 1 or more")
     return rounds
 
 
 def hours_of(word: str) -> float:
-    hours = float(word)
+    try:
+        hours = float(word)
+    except ValueError:
+        hours = math.nan
     if not 0 <= hours < math.inf:
-        raise ValueError(word)
+        raise argparse.ArgumentTypeError(f"{word!r} is not a number of hours")
     return hours
 
 

@@ -17,6 +17,7 @@ from arena_ladder.config import BOT_NAME, Config, ConfigFault, config_of
 from arena_ladder.misses import Miss
 from arena_ladder.outcome import Outcome
 from arena_ladder.pairing import Fixture
+from arena_ladder.texts import counted
 from arena_ladder.watch import Watch
 
 MATCHES = Path("out/matches")
@@ -95,15 +96,16 @@ class Boards(Watch):
             last = self.last[bot]
             answer = f", status {last.status}" if last.status else ""
             answer += f": {json.dumps(last.start)}" if last.start else ""
-            moves = "1 move" if missed.total() == 1 else f"{missed.total()} moves"
+            moves = counted(missed.total(), "move")
             lines.append(f"{bot} missed {moves} ({causes}); the last in turn {last.turn}{answer}")
         return lines
 
 
 def result_lines(outcome: Outcome) -> list[str]:
     """The result of a game, a line for each seat."""
-    lines = [f"{outcome.turns} turns"]
+    lines = [counted(outcome.turns, "turn")]
     for it in outcome.finishes:
         why = f" ({it.cause}{f' by {it.killer}' if it.killer else ''})" if it.cause else ""
-        lines.append(f"{it.bot}: {it.result or 'done'}, length {it.length}, {it.turns} turns{why}")
+        lived = counted(it.turns, "turn")
+        lines.append(f"{it.bot}: {it.result or 'done'}, length {it.length}, {lived}{why}")
     return lines

@@ -12,6 +12,7 @@ from arena_ladder.bots import Answer
 from arena_ladder.outcome import Outcome, SeatResult
 from arena_ladder.pairing import Fixture
 from arena_ladder.payloads import Look
+from arena_ladder.texts import counted
 from arena_ladder.watch import Watch
 
 MOST_BOARDS = 16  # in a message
@@ -89,9 +90,9 @@ class News(Watch):
 
     def games(self) -> str:
         """The games that are done, and of how many."""
-        return (
-            f"{self.done:,} of {self.fixtures:,} games" if self.fixtures else f"{self.done:,} games"
-        )
+        if self.fixtures and self.done <= self.fixtures:
+            return f"{self.done:,} of {counted(self.fixtures, 'game', ',')}"
+        return counted(self.done, "game", ",")
 
     def left(self) -> str:
         """The time that the other games take, or the games an hour of a ladder without an end."""

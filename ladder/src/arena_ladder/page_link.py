@@ -7,6 +7,7 @@ object with its address or a fault, and each later line says that it is alive.
 
 from __future__ import annotations
 
+import argparse
 import asyncio
 import json
 import os
@@ -50,7 +51,7 @@ def address_of(word: str) -> Address:
     """Parses `PORT`, which is on 127.0.0.1, or `HOST:PORT`."""
     host, _, port = word.rpartition(":")
     if not port.isascii() or not port.isdigit() or not int(port) < 65536:
-        raise ValueError(f"{word!r} is no port and no address with one")
+        raise argparse.ArgumentTypeError(f"{word!r} is neither a port nor HOST:PORT")
     return Address(host.strip("[]") or LOCAL, int(port))
 
 

@@ -2,6 +2,7 @@
 
 from __future__ import annotations
 
+import argparse
 import re
 from collections.abc import Iterable, Iterator, Sequence
 from dataclasses import dataclass
@@ -47,7 +48,7 @@ def part_of(word: str) -> Part:
     found = re.fullmatch(r"([0-9]{1,5})/([0-9]{1,5})", word)
     part = Part(int(found[1]), int(found[2])) if found else Part(0, 0)
     if not 1 <= part.number <= part.parts:
-        raise ValueError(f"{word!r} is no part such as 2/4")
+        raise argparse.ArgumentTypeError(f"{word!r} is not a part, such as 2/4")
     return part
 
 

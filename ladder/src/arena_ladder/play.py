@@ -184,12 +184,12 @@ class Run:
         """Where the games come from: a list, or the results so far."""
         config = self.context.config
         if config.is_endless:
-            return Endless(config, self.store, self.storing, self.heed, self.ends_at)
+            return Endless(config, self.store, self.storing, self.on_changes, self.ends_at)
         if config.is_tournament:
             return Playing(config, self.store, self.storing, self.ends_at)
         return Schedule(fixtures, config.games_a_bot, self.ends_at)
 
-    def heed(self, changes: list[Change], gone: set[str]) -> None:
+    def on_changes(self, changes: list[Change], gone: set[str]) -> None:
         """Takes changes of the roster, and bots that are gone; asks those with new addresses for
         their looks."""
         urls = self.context.urls

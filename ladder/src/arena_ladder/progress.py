@@ -16,7 +16,7 @@ from arena_ladder.bots import Answer
 from arena_ladder.misses import Miss
 from arena_ladder.outcome import Outcome
 from arena_ladder.pairing import Fixture
-from arena_ladder.texts import fit_text
+from arena_ladder.texts import counted, fit_text
 from arena_ladder.times import Times
 from arena_ladder.watch import Watch
 
@@ -24,7 +24,7 @@ REFRESHES_A_SECOND = 4
 ENOUGH_MOVES = 30  # for a median
 MOST_OWN = 10_000  # tenths of a millisecond; longer times count as so long
 MOST_MS = 60_000  # of an answer: the longest timeout
-GROWTH, GROWTH_MS = 1.5, 10  # a median that grows by more depends on the number of games
+GROWTH, GROWTH_MS = (1.5, 10)  # a median that grows by more depends on the number of games
 
 
 class Counts(Watch):
@@ -73,23 +73,30 @@ class Counts(Watch):
         """The progress so far, as a line."""
         return (
             f"{len(self.running)} running, {self.rate():.0f} turns a second, "
-            f"{self.missed.total()} of {self.moves} moves missed"
+            f"{self.missed.total()} of {counted(self.moves, 'move')} missed"
         )
 
     def summary(self) -> list[str]:
         """The summary of the run: a line of the games, one of the moves, and warnings."""
         took = time.monotonic() - self.began
-        of = f"{self.done} of {self.fixtures}" if self.fixtures else f"{self.done}"
+        is_part = 0 < self.fixtures and self.done <= self.fixtures
+        of = f"{self.done} of " if is_part else ""
         games = (
-            f"{of} games are done, {self.played} of them now; "
-            f"{self.turns} turns in {took:.1f} s, {self.rate():.0f} a second"
+            f"{of}{counted(self.fixtures if is_part else self.done, 'game')} "
+            f"{'is' if self.done == 1 else 'are'} done, {self.played} of them now; "
+            f"{counted(self.turns, 'turn')} in {took:.1f} s, {self.rate():.0f} a second"
         )
-        moves = f"{self.missed.total()} of {self.moves} moves missed"
+        moves = f"{self.missed.total()} of {counted(self.moves, 'move')} missed"
         own = self.own_times()
         if own is not None:
             moves += f"; own time between turns {own[0]:.1f} ms, 99 % {own[1]:.1f} ms"
-        late = f"the ladder itself was late in {self.lagged} turns: play fewer games at once"
-        return [games, moves, *([late] if self.lagged else []), *self.strain.warnings()]
+        late = f"the ladder itself was late in {counted(self.lagged, 'turn')}"
+        return [
+            games,
+            moves,
+            *([f"{late}: play fewer games at once"] if self.lagged else []),
+            *self.strain.warnings(),
+        ]
 
     def own_times(self) -> tuple[float, float] | None:
         """The median and the 99th percentile of the ladder's own time between turns, in ms."""
@@ -127,8 +134,9 @@ class Strain:
             medians = [by_games[it].quantile(0.5) or 0 for it in enough]
             if medians and medians[-1] > medians[0] * GROWTH + GROWTH_MS:
                 lines.append(
-                    f"{bot} answers in {medians[0]} ms with {enough[0]} of its games at once, in "
-                    f"{medians[-1]} ms with {enough[-1]}: a smaller games_a_bot may serve it better"
+                    f"{bot} answers in {medians[0]} ms while it plays "
+                    f"{counted(enough[0], 'game')} at once, in {medians[-1]} ms while it plays "
+                    f"{enough[-1]}: a smaller games_a_bot may serve it better"
                 )
         return lines
 

@@ -13,6 +13,7 @@ from arena_ladder.heap import use_one_heap
 from arena_ladder.page_link import Address, address_of
 from arena_ladder.program import add_program, program_of
 from arena_ladder.store import open_store
+from arena_ladder.texts import counted
 
 USUAL = Address("127.0.0.1", 8080)
 LOOK_SECONDS = 2.0  # from one look at the folder to the next
@@ -45,7 +46,7 @@ async def serve_results(folder: Path, program: Path, address: Address) -> None:
             games = await asyncio.to_thread(games_in, folder)
             feed.is_stale = feed.is_stale or games != seen
             seen = games
-            await feed.take({**words, "games": f"{games:,} games"})
+            await feed.take({**words, "games": counted(games, "game", ",")})
             await asyncio.sleep(LOOK_SECONDS)
 
 

@@ -47,7 +47,9 @@ def change_roster(folder: Path, work: Callable[[Store, Rated], str]) -> str:
     with closing(open_store(folder)) as store:
         identity = store.identity()
         if identity is None or identity["pairing"] != "rating":
-            raise StoreFault(f'{folder} is no ladder with pairing = "rating": its bots are fixed')
+            raise StoreFault(
+                f'{folder} is not a ladder with pairing = "rating": its bots are fixed'
+            )
         if store.is_closed():
             raise StoreFault(f"{folder} is closed")
         return work(store, state_of(store))
@@ -59,7 +61,7 @@ def fit_url(store: Store, url: str) -> str:
     A name that has no address now is checked when it is called.
     """
     if shown(url) != url:
-        raise StoreFault("an address with a password can stand in the configuration alone")
+        raise StoreFault("only the configuration may have an address with a password")
     url = checked_url(url, Members({}, "the roster"))
     host = target_of(url).place.host
     try:
@@ -102,9 +104,11 @@ def add(folder: Path, name: str, url: str) -> str:
         if not BOT_NAME.fullmatch(name) and name not in rated.players:
             raise StoreFault(f"the name {name!r} is not 1 to 32 letters, digits, _, . and -")
         if name in rated.players and rated.players[name].is_in:
-            raise StoreFault(f"the roster has a bot {name!r}: replace it by a new version")
+            raise StoreFault(
+                f"the roster has a bot {name!r} already: `replace` takes a new version"
+            )
         if sum(it.is_in for it in rated.players.values()) >= MOST_BOTS:
-            raise StoreFault(f"the roster has {MOST_BOTS} bots")
+            raise StoreFault(f"the roster is full: it has {MOST_BOTS} bots")
         store.add_change("add", name, fit_url(store, url))
         return f"{name} plays from its next game on"
 

@@ -15,7 +15,7 @@ from typing import Any
 from arena_ladder.rated import Rated
 from arena_ladder.roster import change_roster
 from arena_ladder.store import Store, StoreFault
-from arena_ladder.texts import fit_text
+from arena_ladder.texts import counted, fit_text
 
 LONGEST_NAME = 64
 DAY = len("2026-11-29")
@@ -63,7 +63,8 @@ def begin_season(folder: Path, name: str) -> str:
             )
             store.put_setting(NAME, name)
             store.sums.begin_anew(last)
-        return f"the season {name} begins after {last:,} games; {last - first:,} were in the last"
+        ended = counted(last - first, "game", ",")
+        return f"the season {name} begins after {counted(last, 'game', ',')}; the last had {ended}"
 
     return change_roster(folder, work)
 

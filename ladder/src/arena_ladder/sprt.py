@@ -13,6 +13,7 @@ from dataclasses import dataclass
 
 from arena_ladder.outcome import Outcome, SeatResult
 from arena_ladder.pairing import pair_of
+from arena_ladder.texts import counted
 from arena_ladder.watch import Watch
 
 SCORES = (0.0, 0.25, 0.5, 0.75, 1.0)  # of a pair
@@ -89,6 +90,9 @@ class Sprt(Watch):
         if self.is_decided and self.ratio > 0:
             what = f"{self.new} is better than {old}: {self.elo1:g} Elo, and not {self.elo0:g}"
         elif self.is_decided:
-            what = f"{self.new} is not {self.elo1:g} Elo better than {old}, but {self.elo0:g}"
-        ratio = f"{sum(self.counts)} pairs, log-likelihood ratio {self.ratio:.2f}"
+            what = (
+                f"{self.new} is not {self.elo1:g} Elo better than {old}: {self.elo0:g} is likelier"
+            )
+        pairs = counted(sum(self.counts), "pair")
+        ratio = f"{pairs}, log-likelihood ratio {self.ratio:.2f}"
         return [f"{ratio} (from -{BOUND:.2f} to {BOUND:.2f}): {what}", f"pairs by score: {scores}"]

@@ -98,11 +98,12 @@ class Store:
     def begin(self, identity: Mapping[str, Any], bots: Iterable[Bot]) -> None:
         """Stores the ladder's identity and bots; refuses a closed folder, and another ladder's."""
         if self.is_closed():
-            raise StoreFault(f"{self.path} is of a closed ladder, to which no game is added")
+            raise StoreFault(f"{self.path} is of a closed ladder, which gets no more games")
         known = self.identity()
         if known is not None and known != dict(identity):
             other = sorted(key for key in identity if known.get(key) != identity[key])
-            raise StoreFault(f"{self.path} is of another ladder: {', '.join(other)} differ")
+            differ = "differs" if len(other) == 1 else "differ"
+            raise StoreFault(f"{self.path} is of another ladder: {', '.join(other)} {differ}")
         with self.base:
             if known is None:
                 self.base.execute("INSERT INTO ladder VALUES (?)", (json.dumps(dict(identity)),))

@@ -111,7 +111,7 @@ class Sums:
         while max(0, count - 1) >> shift >= MOST_BLOCKS:
             shift += 1
         if count >= MANY:
-            said = f"ladder: the sums of {count:,} games are made, once; this takes a while"
+            said = f"ladder: adding up {count:,} games, which is done once and takes a while"
             print(said, file=sys.stderr)
         self.base.execute("INSERT INTO summed VALUES (?, 0)", (shift,))
         for block in (str(ALL), f"(g.rowid - 1) >> {shift}"):

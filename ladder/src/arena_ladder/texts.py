@@ -1,4 +1,4 @@
-"""Texts of strangers, made fit for other bots, terminals and tables."""
+"""Texts of strangers, made fit for bots, terminals and tables; numbers with their nouns."""
 
 from __future__ import annotations
 
@@ -15,6 +15,11 @@ def fit_text(text: str) -> str:
     """
     kept = "".join(it for it in text if unicodedata.category(it) not in UNFIT)
     return kept.encode("utf-8", "replace").decode()
+
+
+def counted(number: int, noun: str, form: str = "") -> str:
+    """A number with its noun, such as `1 game` and `20 games`; the form `,` gives `2,000 games`."""
+    return f"{number:{form}} {noun}" if number == 1 else f"{number:{form}} {noun}s"
 
 
 def cell_text(text: str) -> str:

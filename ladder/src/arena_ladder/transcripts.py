@@ -22,7 +22,7 @@ PIECE = 256 * 1024
 
 
 class NoTranscript(Exception):
-    """A transcript that can't be had, with the reason. `is_busy`: it may be had later."""
+    """A transcript that can't be made now, with the reason. `is_busy`: another try may succeed."""
 
     def __init__(self, why: str, is_busy: bool = False) -> None:
         super().__init__(why)

@@ -52,7 +52,7 @@ function wordsOfCauses(row) {
   return causes.filter((it) => row[it] > 0).map((it) => `${it} ${row[it]}`).join(', ');
 }
 
-/** Fetches JSON from the page's server; null if it can't be had. */
+/** Fetches JSON from the page's server; null if there is none. */
 async function fetchJson(address) {
   try {
     const answer = await fetch(address);
