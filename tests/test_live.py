@@ -419,6 +419,25 @@ class TestLong:
                 assert count > 2_000_001 or answer.endswith(b'"game":"a","seq":%d}\n' % count)
         assert count == 2_000_002
 
+    def test_two_million_reads(self):
+        """A host whose lines come one by one: no read of a packet pipe has more than one write."""
+        reader, writer = os.pipe2(os.O_DIRECT)
+        with tempfile.TemporaryFile() as answers, open(writer, "wb", 0) as given:
+            run = subprocess.Popen(
+                [program.path, "live"], stdin=reader, stdout=answers, stderr=subprocess.PIPE
+            )
+            os.close(reader)
+            given.write(line(games=[{"game": "a", "quota": 4096}]).encode() + b"\n")
+            for _ in range(2_000_000):
+                given.write(b"\n")
+            given.write(line(game="a", do="show").encode())
+            given.close()
+            assert (run.communicate(timeout=SECONDS)[1], run.returncode) == (b"", 0)
+            answers.seek(0)
+            none, last = (json.loads(answer) for answer in answers)
+        assert none == {"game": "a", "no": "G2", "seq": 1, "why": "none"}
+        assert last == {"board": None, "charge": 0, "final": True, "game": "a"}
+
 
 class TestStatuses:
     def test_refused_words(self):

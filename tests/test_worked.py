@@ -175,6 +175,9 @@ class TestGames:
             (2, 0, [5, 5], two),
             (0, 15, [115, 8], []),
             (0, 15, [114, 8], [(1, 0)]),
+            (0, 99, [99, 8], []),
+            (0, 100, [99, 8], [(1, 0)]),
+            (255, 0, [0, 0, 0], [(0, 0), (1, 0), (2, 0)]),
         ):
             first = new("solo", 3, [snake("s", 1, 1)], min_food=min_food, food_chance=chance)
             replies = self.answers(first, move(*words))

@@ -53,14 +53,15 @@ impl Question for ShareOut {
     }
 }
 
-/// What the readers of a core return, and the number of its events.
+/// What the readers of a core return, and the number of its events, copied and moved.
 #[derive(Debug, Drop)]
 pub struct RunSeen {
     core: Seen,
+    copied: usize,
     events: usize,
 }
 
-/// `run_any`, on two threads with a game each, and `Journal::into_vec`.
+/// `run_any`, on two threads with a game each, `Journal::to_vec` and `Journal::into_vec`.
 fn run_both<R: Threads + Wait + Sync>(
     rt: &R,
     alloc: Global,
@@ -70,6 +71,7 @@ fn run_both<R: Threads + Wait + Sync>(
     let core = run_any(rt, alloc, core, acts, 2, &OpenGate)?;
     Ok(RunSeen {
         core: seen_core(alloc, &core)?,
+        copied: core.journal().to_vec(alloc)?.len(),
         events: core.into_journal().into_vec(alloc)?.len(),
     })
 }

@@ -52,6 +52,7 @@ pub mod ApartStorage
 pub mod ApartStep
 pub mod ApartRun
 pub mod ApartNeeds
+pub mod ApartExample
 pub mod ApartGames
 pub mod ApartReservations
 pub mod Assembly

@@ -73,7 +73,7 @@ second_answer quota fits = rw (first_charge, second_is, second_charge, fits) ref
 
 -- events one after the other
 
-abbrev Goes : Setting → List Lane → List Event → List Lane → Type 0
+abbrev pub Goes : Setting → List Lane → List Event → List Lane → Type 0
 Goes setting lanes events last = (are_enabled setting lanes events ≡ true) × (run_of setting lanes events ≡ last)
 
 one_more : (setting : Setting) (lanes next last : List Lane) (e : Event) (events : List Event) → is_enabled setting lanes e ≡ true → lane_effect lanes e ≡ next
@@ -116,7 +116,8 @@ module _ (setting : Setting) (worker : ℕ) (row : GameRow) (flattened : nat_le 
   abbrev joining : Lane
   joining = with_taken worker kind.Join 0 part_done
 
-  abbrev moved : Lane
+  -- both commands are answered
+  abbrev pub moved : Lane
   moved = record moving { replies = Shown word.New first 32 ∷ Shown word.Move second 64 ∷ []; game = first ∷ second ∷ []; stage = stage.Idle }
 
   abbrev gone : Lane
@@ -153,36 +154,47 @@ module _ (setting : Setting) (worker : ℕ) (row : GameRow) (flattened : nat_le 
   abbrev last : List Lane
   last = gone ∷ empty_lane row ∷ []
 
-  one_job : (x y z : Lane) (k : JobKind) (events : List Event) → is_enabled setting (x ∷ []) (event.Take worker (only_job k)) ≡ true → with_taken worker k 0 x ≡ y
-      → is_enabled setting (y ∷ []) (event.Put worker (only_job k)) ≡ true → with_put k 0 y ≡ z → Goes setting (z ∷ []) events last
-      → Goes setting (x ∷ []) (job_then worker k events) last
-  one_job x y z k events takes taken puts put rest =
-      one_more setting (x ∷ []) (y ∷ []) last (event.Take worker (only_job k)) (event.Put worker (only_job k) ∷ events) takes (ap (λ (l : Lane). l ∷ []) taken)
-      (one_more setting (y ∷ []) (z ∷ []) last (event.Put worker (only_job k)) events puts (ap (λ (l : Lane). l ∷ []) put) rest)
+  one_job : (x y z : Lane) (k : JobKind) (events : List Event) (end : List Lane) → is_enabled setting (x ∷ []) (event.Take worker (only_job k)) ≡ true
+      → with_taken worker k 0 x ≡ y → is_enabled setting (y ∷ []) (event.Put worker (only_job k)) ≡ true → with_put k 0 y ≡ z → Goes setting (z ∷ []) events end
+      → Goes setting (x ∷ []) (job_then worker k events) end
+  one_job x y z k events end takes taken puts put rest =
+      one_more setting (x ∷ []) (y ∷ []) end (event.Take worker (only_job k)) (event.Put worker (only_job k) ∷ events) takes (ap (λ (l : Lane). l ∷ []) taken)
+      (one_more setting (y ∷ []) (z ∷ []) end (event.Put worker (only_job k)) events puts (ap (λ (l : Lane). l ∷ []) put) rest)
 
   leaves : Goes setting (moved ∷ []) (event.Leave 0 ∷ event.Admit row ∷ []) last
   leaves =
       one_more setting (moved ∷ []) (gone ∷ []) last (event.Leave 0) (event.Admit row ∷ []) refl refl
       (one_more setting (gone ∷ []) last last (event.Admit row) [] next_comes refl (refl, refl))
 
-  abbrev turn_events : List Event
-  turn_events = job_then worker kind.Begin (job_then worker kind.Part (job_then worker kind.Join (event.Leave 0 ∷ event.Admit row ∷ [])))
+  -- the jobs of the two commands, and then these events
+  plays : (events : List Event) (end : List Lane) → Goes setting (moved ∷ []) events end
+      → Goes setting (handed ∷ []) (job_then worker kind.Begin (job_then worker kind.Begin (job_then worker kind.Part (job_then worker kind.Join events)))) end
+  plays events end rest =
+      let after_part = job_then worker kind.Join events in
+      let after_begin = job_then worker kind.Part after_part in
+      one_job handed begun running kind.Begin (job_then worker kind.Begin after_begin) end (rw flattened refl) refl (rw self refl) runs
+      (one_job running moving in_parts kind.Begin after_begin end (rw flattened refl) refl (rw self refl) goes_on
+      (one_job in_parts part_out part_done kind.Part after_part end (rw flattened refl) refl (rw self refl) refl
+      (one_job part_done joining moved kind.Join events end (rw flattened refl) refl (rw self refl) is_moved rest)))
 
-  plays : Goes setting (running ∷ []) turn_events last
-  plays =
-      let after_part = job_then worker kind.Join (event.Leave 0 ∷ event.Admit row ∷ []) in
-      one_job running moving in_parts kind.Begin (job_then worker kind.Part after_part) (rw flattened refl) refl (rw self refl) goes_on
-      (one_job in_parts part_out part_done kind.Part after_part (rw flattened refl) refl (rw self refl) refl
-      (one_job part_done joining moved kind.Join (event.Leave 0 ∷ event.Admit row ∷ []) (rw flattened refl) refl (rw self refl) is_moved leaves))
+  -- the commands are queued first
+  pub queued : (events : List Event) (end : List Lane) → Goes setting (moved ∷ []) events end
+      → Goes setting (come ∷ [])
+      (event.Hand 0 (command.New solo_setup) ∷ event.Hand 0 (command.Move (orders_of [] []))
+      ∷ job_then worker kind.Begin (job_then worker kind.Begin (job_then worker kind.Part (job_then worker kind.Join events))))
+      end
+  queued events end rest =
+      let jobs = job_then worker kind.Begin (job_then worker kind.Begin (job_then worker kind.Part (job_then worker kind.Join events))) in
+      let move = event.Hand 0 (command.Move (orders_of [] [])) in
+      one_more setting (come ∷ []) (one_handed ∷ []) end (event.Hand 0 (command.New solo_setup)) (move ∷ jobs) refl refl
+      (one_more setting (one_handed ∷ []) (handed ∷ []) end move jobs refl refl (plays events end rest))
 
   goes : Goes setting [] (coming_and_going worker row) last
   goes =
-      let after_begin = job_then worker kind.Begin turn_events in
-      let move = event.Hand 0 (command.Move (orders_of [] [])) in
-      one_more setting [] (come ∷ []) last (event.Admit row) (event.Hand 0 (command.New solo_setup) ∷ move ∷ after_begin) first_comes refl
-      (one_more setting (come ∷ []) (one_handed ∷ []) last (event.Hand 0 (command.New solo_setup)) (move ∷ after_begin) refl refl
-      (one_more setting (one_handed ∷ []) (handed ∷ []) last move after_begin refl refl
-      (one_job handed begun running kind.Begin turn_events (rw flattened refl) refl (rw self refl) runs plays)))
+      let later = event.Leave 0 ∷ event.Admit row ∷ [] in
+      let jobs = job_then worker kind.Begin (job_then worker kind.Begin (job_then worker kind.Part (job_then worker kind.Join later))) in
+      one_more setting [] (come ∷ []) last (event.Admit row) (event.Hand 0 (command.New solo_setup) ∷ event.Hand 0 (command.Move (orders_of [] [])) ∷ jobs) first_comes refl
+      (queued later last leaves)
 
 pub progress_example : ProgressExample
 progress_example setting worker row flattened room quota =

@@ -1,5 +1,6 @@
 pub mod Registry
 pub mod Answering
+pub mod ApartExample
 pub mod Assembly
 pub mod Coming
 pub mod Game

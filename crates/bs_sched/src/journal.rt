@@ -3,7 +3,7 @@ ghost use Rattle.std.specs.Prelude.{◌≡◌, ◌+◌, ◌++◌, ◌∷◌, [],
 ghost use Rattle.bs_sched.specs.inner.Merging.{merged};
 
 use crate::event::Event;
-use crate::merging::{Left, merge};
+use crate::merging::{Left, merge, share_all, share_onto};
 use bs_registry::MOST_STAYS;
 use std::alloc::{AllocError, Global};
 use std::marker::Model;
@@ -95,6 +95,22 @@ impl Journal {
             None => Some(self.later.as_slice()),
             Some(_) => None,
         }
+    }
+
+    /// A list of the events, as `into_vec` makes it, while the journal stays: commands and rows are
+    /// shared. The error is the allocator's.
+    pub fn to_vec(&self, alloc: Global) -> Result<Vec<Event>, AllocError>
+        ensures { IfOk result (λ events. events.items ≡ self.now.events) }
+    {
+        let mut events = match &self.unmerged {
+            None => Vec::new(alloc),
+            Some(unmerged) => {
+                let lefts = share_all(alloc, unmerged.lefts.as_slice())?;
+                merge(alloc, lefts, unmerged.order.as_slice())?
+            }
+        };
+        share_onto(self.later.as_slice(), &mut events)?;
+        Ok(events)
     }
 
     /// The events as one list. Those of a core that was put together are merged: each is moved, and

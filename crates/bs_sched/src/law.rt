@@ -2,6 +2,7 @@
 ghost use Rattle.bs_sched.specs.Registry.{RegistryLaw, ProgressExample, NamesLaw, ServedLaw, JournalLaw};
 ghost use Rattle.bs_sched.specs.Isolation.{IsolationLaw};
 ghost use Rattle.bs_sched.specs.SharedMemory.{MemoryLaw};
+ghost use Rattle.bs_sched.specs.ApartExample.{ApartExample};
 ghost use Rattle.bs_sched.specs.Assembly.{AssemblyLaw, SharingLaw};
 
 /// States the isolation law for every plan within its limits, every number of workers, every list
@@ -34,8 +35,10 @@ pub fn isolation_law()
 /// other, are enabled in the core of all games. They lead there to the lanes of these cores. A
 /// record that lies in block n of its core lies there in the n-th of the blocks that the cores
 /// before left free, at the same place. The reservations of the cores are those of the plan. Newly
-/// opened cores are put together to the newly opened core of the plan. Does nothing.
+/// opened cores are put together to the newly opened core of the plan. Two games can run so, each
+/// with a turn. Does nothing.
 pub fn assembly_law()
     ensures assembly { AssemblyLaw }
     ensures sharing { SharingLaw }
+    ensures progress { ApartExample }
 {}

@@ -33,6 +33,15 @@ impl SharedRow {
         }
     }
 
+    /// Adds a handle without allocating. Fails if the number of handles would overflow.
+    pub(crate) fn share(&self) -> Result<SharedRow, AllocError>
+        ensures { IfOk result (λ shared. shared ≡ self.now) }
+    {
+        Ok(SharedRow {
+            row: Arc::try_clone(&self.row)?,
+        })
+    }
+
     /// The row.
     pub fn get(&self) -> &Row
         ensures { result.now ≡ self.now }

@@ -16,6 +16,8 @@ mod gates;
 #[cfg(test)]
 mod here;
 #[cfg(test)]
+mod journals;
+#[cfg(test)]
 mod player;
 #[cfg(test)]
 mod registry;
