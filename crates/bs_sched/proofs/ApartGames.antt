@@ -28,7 +28,7 @@ use Rattle.bs_sched.proofs.ApartNeeds.{first_storage, own_storage, frames_stay}
 -- room
 
 -- as many numbers stay free as the part does not have
-room_woven : (rename : ℕ → ℕ) (whole part : List (Option ℕ)) → count_by is_unowned whole ≤ count_by is_unowned (woven rename whole part) + length part
+pub room_woven : (rename : ℕ → ℕ) (whole part : List (Option ℕ)) → count_by is_unowned whole ≤ count_by is_unowned (woven rename whole part) + length part
 room_woven rename [] part = omega arith
 room_woven rename (Some owner ∷ whole) part =
     let rest = room_woven rename whole part in

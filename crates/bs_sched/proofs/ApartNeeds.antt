@@ -53,7 +53,7 @@ pub held_below : (tag : ℕ) (numbers : List ℕ) (pool : Ledger) → Holds tag 
 held_below tag numbers pool holds =
     All-weaker (λ n. Owns tag n pool) (λ n. n < length pool.owners) (λ n owns. slice_get_within pool.owners n (Some tag) owns) numbers holds.owned.each
 
-closed_below : (many : ℕ) (p : Packing) → AreBelow many (numbers_of p) → AreBelow many (closed_numbers p)
+pub closed_below : (many : ℕ) (p : Packing) → AreBelow many (numbers_of p) → AreBelow many (closed_numbers p)
 closed_below many p below =
     all_left (λ n. n < many) (closed_numbers p) (map (λ (u : Use). u.number) (option_to_list p.current))
     (subst (AreBelow many) (map-append (λ (u : Use). u.number) p.closed (option_to_list p.current)) below)

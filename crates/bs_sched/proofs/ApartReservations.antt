@@ -81,7 +81,7 @@ own_reserved cap workers row commands core alone =
     ap reserved_in (sym (own_storage cap workers row commands core alone).storage)
     ∙ run_kept cap (setting_in cap core) core.journal (queued commands (empty_lane row) ∷ []) (first_storage cap row core)
 
-two_reservations : (cap game : ℕ) (row : GameRow) (rest : List Reservation) → map (reservation_at game) (reservations_of cap (row ∷ [])) ++ rest
+pub two_reservations : (cap game : ℕ) (row : GameRow) (rest : List Reservation) → map (reservation_at game) (reservations_of cap (row ∷ [])) ++ rest
     ≡ record { tag = record_tag game; blocks = record_blocks cap row } ∷ record { tag = frame_tag game; blocks = FRAME_BLOCKS } ∷ rest
 two_reservations cap game row rest =
     let records : tag_at game (record_tag 0) ≡ record_tag game = omega arith in

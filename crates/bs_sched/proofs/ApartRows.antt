@@ -66,7 +66,7 @@ own_jobs cap workers row commands core alone =
 
 -- no worker is busy
 
-idle_begins : (worker : ℕ) (s : Stage) → is_idle s ≡ true → (has_begin worker s || has_join worker s) ≡ false
+pub idle_begins : (worker : ℕ) (s : Stage) → is_idle s ≡ true → (has_begin worker s || has_join worker s) ≡ false
 idle_begins worker stage.Idle idle = refl
 idle_begins worker (stage.Begin w) idle = cc
 idle_begins worker stage.Parts idle = cc

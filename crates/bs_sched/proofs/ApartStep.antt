@@ -108,7 +108,7 @@ module _ (row : ℕ) (before : List (Option ℕ)) (rs : List Reservation) (done_
   frames_tag : tag_at row (frame_tag 0) ≡ frame_tag row
   frames_tag = omega arith
 
-  stored_beside : (cap : ℕ) (effect : Effect) (p : Packing) (f : List (Option ℕ)) (pool : Ledger) → CanStore cap effect (lone_storage p f pool)
+  pub stored_beside : (cap : ℕ) (effect : Effect) (p : Packing) (f : List (Option ℕ)) (pool : Ledger) → CanStore cap effect (lone_storage p f pool)
       → stored cap row effect (beside (lone_storage p f pool)) ≡ beside (stored cap 0 effect (lone_storage p f pool))
   stored_beside cap effect p f pool can =
       let w = laid pool in

@@ -28,7 +28,7 @@ use Rattle.bs_sched.proofs.ApartGames.{all_unowned, rows_stored, owners_many}
 
 -- the commands and the jobs are within the limits
 
-jobs_fit : (row : ℕ) (journal : List Event) → All HandsFit (jobs_at row journal)
+pub jobs_fit : (row : ℕ) (journal : List Event) → All HandsFit (jobs_at row journal)
 jobs_fit row [] = All-nil HandsFit
 jobs_fit row (event.Hand game command ∷ journal) = jobs_fit row journal
 jobs_fit row (event.Take worker job ∷ journal) = All-cons HandsFit _ (jobs_at row journal) (record {}) (jobs_fit row journal)

@@ -53,7 +53,7 @@ commands_work : (commands : List Command) → All IsWork (map (event.Hand 0) com
 commands_work [] = All-nil IsWork
 commands_work (command ∷ commands) = All-cons IsWork (event.Hand 0 command) (map (event.Hand 0) commands) (record {}) (commands_work commands)
 
-one_lane : (cap workers : ℕ) (row : GameRow) (commands : List Command) (core : CoreView) → RanAlone cap workers row commands core → length core.games.lanes ≡ 1
+pub one_lane : (cap workers : ℕ) (row : GameRow) (commands : List Command) (core : CoreView) → RanAlone cap workers row commands core → length core.games.lanes ≡ 1
 one_lane cap workers row commands core alone =
     let work : All IsWork core.journal = subst (All IsWork) (sym alone.hands_first)
     (All-append IsWork (map (event.Hand 0) commands) (jobs_at 0 core.journal) (commands_work commands) (jobs_work 0 core.journal)) in

@@ -66,6 +66,15 @@ pub mod PlacedGame
 pub mod Merged
 pub mod PutTogether
 pub mod RanAlone
+pub mod StayJobs
+pub mod StayLeaves
+pub mod Leading
+pub mod OpenReservations
+pub mod StaysPlayed
+pub mod StaysEnd
+pub mod StaysApart
+pub mod PlayedStays
+pub mod LoneStays
 pub mod NotedJobs
 pub mod NextParts
 pub mod Behind

@@ -15,6 +15,7 @@ pub mod Isolation
 pub mod Journal
 pub mod Keyed
 pub mod Lane
+pub mod LoneStay
 pub mod Machine
 pub mod Memory
 pub mod MoveParts
@@ -23,6 +24,7 @@ pub mod Parts
 pub mod PlanBlocks
 pub mod Putting
 pub mod SharedMemory
+pub mod StaysApart
 pub mod Storage
 pub mod Taking
 pub mod inner

@@ -14,6 +14,7 @@ pub mod Journal
 pub mod Keyed
 pub mod Lane
 pub mod LastBoards
+pub mod LoneStays
 pub mod Merging
 pub mod MoveParts
 pub mod PartsLayout

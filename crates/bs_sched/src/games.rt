@@ -6,6 +6,7 @@ ghost use Rattle.bs_board.specs.plans.Plan.{IsFitPlan, is_fit_row};
 ghost use Rattle.bs_pool.specs.Ledger.{free, opened as new_pool, size};
 ghost use Rattle.bs_pool.specs.Reservations.{all_reserved};
 ghost use Rattle.bs_sched.specs.Games.{after, opened, KeepsTallies, games_taken, setting_of, tally_of};
+ghost use Rattle.bs_sched.specs.inner.LoneStays.{HasOneStay};
 ghost use Rattle.bs_sched.specs.inner.Games.{games_completed};
 ghost use Rattle.bs_sched.specs.inner.GamesLayout.{lanes_in, numbers_in, opened_games};
 ghost use Rattle.bs_sched.specs.inner.Assembling.{AreLedTo, ArePlaced, IsOnly, games_of};
@@ -376,6 +377,14 @@ impl<const CAP: usize> Games<CAP> {
         }
         let pool = Pool::open(alloc, blocks)?;
         Ok(Games::open_in(alloc, plan.rows, pool, workers)?)
+    }
+
+    /// Does nothing. Gives the prover that the storage of one game is that of one stay.
+    pub(crate) fn keeps_one(&self)
+        requires { length self.now.lanes ≡ 1 }
+        ensures { HasOneStay self.now.storage }
+    {
+        let _list = &self.list;
     }
 
     /// The only game, and the pool.

@@ -4,6 +4,7 @@ ghost use Rattle.bs_sched.specs.Isolation.{IsolationLaw};
 ghost use Rattle.bs_sched.specs.SharedMemory.{MemoryLaw};
 ghost use Rattle.bs_sched.specs.ApartExample.{ApartExample};
 ghost use Rattle.bs_sched.specs.Assembly.{AssemblyLaw, SharingLaw};
+ghost use Rattle.bs_sched.specs.StaysApart.{PlayedExample, StaysApartLaw};
 
 /// States the isolation law for every plan within its limits, every number of workers, every list
 /// of events whose commands and rows are within the limits, and every stay of the plan or admitted
@@ -41,4 +42,20 @@ pub fn assembly_law()
     ensures assembly { AssemblyLaw }
     ensures sharing { SharingLaw }
     ensures progress { ApartExample }
+{}
+
+/// States the law of stays that come and go, for every plan within its limits, every number of
+/// workers and all acts of a file that the registry allows in their order: commands, admissions and
+/// leaves. Each stay was played in a core of its own, with the blocks that it reserves: first all
+/// its commands were queued, then its jobs were done until none was in progress; if it leaves, it
+/// has nothing left to do. The acts in the order of the file, before each leave the jobs of the stay
+/// that leaves, and then the jobs of the other stays, one stay after the other, are enabled in the
+/// core of all stays. They lead there to the lanes of these cores, closed if the stay left. A stay
+/// that left has no block and no reservation. A record of another stay that lies in block n of its
+/// core lies there in the n-th of the blocks that the stays before left free, at the same place. The
+/// reservations are those of the stays that did not leave. A stay that plays a turn can be played
+/// so, whether it leaves or not. Does nothing.
+pub fn stays_apart_law()
+    ensures stays { StaysApartLaw }
+    ensures played { PlayedExample }
 {}

@@ -61,8 +61,9 @@ fn open_apart<const CAP: usize>(
 }
 
 impl<const CAP: usize> Core<CAP> {
-    /// Opens a core of that row alone, with blocks of the list.
-    fn open_alone(
+    /// Opens a core of that row alone, with the blocks that the row reserves. Takes them from the
+    /// list. The error is the allocator's.
+    pub fn open_alone(
         alloc: Global,
         row: &Row,
         workers: usize,

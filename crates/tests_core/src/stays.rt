@@ -1,8 +1,9 @@
 //! Stays that are admitted and leave, call by call.
 use crate::player::{CAP, core_of, hand, play_one};
+use bs_block::Block;
 use bs_board::{Command, Refusal, Reply};
 use bs_samples::{holds, new_solo, row, same};
-use bs_sched::{Admit, Core, Counts, Leave};
+use bs_sched::{Admit, Core, Counts, Leave, blocks_of};
 use std::alloc::Global;
 use std::test::Fail;
 
@@ -182,4 +183,39 @@ fn check_full(alloc: Global, core: &mut Core<CAP>) -> Result<(), Fail> {
     check_admit(alloc, core, "more", Err(Admit::Full))?;
     check_leave(alloc, core, 7, Ok(()))?;
     check_admit(alloc, core, "more", Ok(64))
+}
+
+/// Closes the only stay of the core, whose blocks move to the list.
+fn close(alloc: Global, core: Core<CAP>, blocks: &mut Vec<Block<CAP>>) -> Result<(), Fail> {
+    holds("one stay", core.rows() == 1)?;
+    holds("open", core.is_open(0))?;
+    holds("quiet", core.is_quiet())?;
+    core.close_alone(alloc, blocks)?;
+    Ok(())
+}
+
+/// Opens a core of `b` alone, with blocks of the list.
+fn open_b(alloc: Global, blocks: &mut Vec<Block<CAP>>) -> Result<Core<CAP>, Fail> {
+    let row = row(alloc, "b", 64)?;
+    holds("enough blocks", blocks_of(CAP, &row) <= blocks.len())?;
+    Ok(Core::<CAP>::open_alone(alloc, &row, 2, blocks)?)
+}
+
+/// A stay of quota 64 reserves six blocks. Once it has left its core, they are those of the next
+/// one.
+#[test]
+fn the_blocks_of_a_closed_core_serve_the_next(rt: HostRuntime) -> Result<(), Fail> {
+    let alloc = rt.alloc();
+    let mut core = core_of(alloc, &[("a", 64)], 6)?;
+    hand(alloc, &mut core, 0, new_solo(alloc, 3)?)?;
+    play_one(alloc, &mut core, 0)?;
+    let mut blocks = Vec::new(alloc);
+    close(alloc, core, &mut blocks)?;
+    same("blocks of the closed core", blocks.len(), 6)?;
+    let next = open_b(alloc, &mut blocks)?;
+    same("blocks that are left", blocks.len(), 0)?;
+    holds("one stay", next.rows() == 1)?;
+    let lone = next.into_lone();
+    drop(lone);
+    Ok(())
 }
