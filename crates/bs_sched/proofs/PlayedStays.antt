@@ -83,7 +83,8 @@ module _ (cap workers : ℕ) (row : GameRow) (hosted : IsHosted (setting_with ca
   fits : All HandsFit events
   fits =
       All-from_recursion HandsFit events (
-        setup_fits, (record { texts = All-nil _; distinct = refl; words = record { few = omega arith; small = All-nil _ } }, (record {}, (record {}, (record {}, (record {}, (record {}, (record {}, (record {}, (record {}, record {})))))))))
+        setup_fits,
+        (record { texts = All-nil _; distinct = refl; words = record { few = omega arith; small = All-nil _ } }, (record {}, (record {}, (record {}, (record {}, (record {}, (record {}, (record {}, (record {}, record {}))))))))),
       )
 
   pub ran_alone : RanAlone cap workers row solo_commands core
