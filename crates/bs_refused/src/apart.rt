@@ -53,6 +53,36 @@ impl Question for ShareOut {
     }
 }
 
+/// What there is of a core that was opened with the blocks of a closed one: its readers, and how
+/// many blocks were free between.
+#[derive(Debug, Drop)]
+pub struct AgainSeen {
+    freed: usize,
+    core: Seen,
+}
+
+/// `Core::close_alone`, of a core of one game, and `Core::open_alone` with its blocks.
+pub struct OpenAgain;
+
+impl Question for OpenAgain {
+    type On = usize;
+
+    type Answer = AgainSeen;
+
+    fn call(alloc: Global, on: &usize) -> Result<AgainSeen, Fault> {
+        let core = Core::<CAP>::open(alloc, plan_of(alloc, &["a"])?, *on, WORKERS)?;
+        let row = core.row(0).copy(alloc)?;
+        let mut blocks = Vec::new(alloc);
+        core.close_alone(alloc, &mut blocks)?;
+        let freed = blocks.len();
+        let core = Core::<CAP>::open_alone(alloc, &row, WORKERS, &mut blocks)?;
+        Ok(AgainSeen {
+            freed,
+            core: seen_core(alloc, &core)?,
+        })
+    }
+}
+
 /// What the readers of a core return, and the number of its events, copied and moved.
 #[derive(Debug, Drop)]
 pub struct RunSeen {
