@@ -1,9 +1,9 @@
 -- A core whose stays are between two commands stays so: each act leaves them idle, and a command
 -- that is answered where it is waits no more.
-use Rattle.std.proofs.Common.{◌≡◌, ℕ, zero, suc, ◌+◌, ◌-◌, ◌<◌, Bool, true, false, List, [], ◌∷◌, ◌++◌, length, map, drop, get_or, set, refl, sym, ap, subst, ◌∙◌, arith, inl, inr, length-drop}
-use Rattle.std.specs.Prelude.{◌&&◌, ◌||◌, if◌then◌else◌, nat_eq, nat_lt, slice_set, sum_by}
+use Rattle.std.proofs.Common.{◌≡◌, ℕ, zero, suc, ◌+◌, ◌-◌, ◌<◌, Bool, true, false, List, [], ◌∷◌, ◌++◌, length, drop, get_or, set, refl, sym, ap, subst, ◌∙◌, arith, inl, inr, length-drop}
+use Rattle.std.specs.Prelude.{◌||◌, if◌then◌else◌, slice_set}
 use Rattle.std.specs.List.{list_all}
-use Rattle.std.proofs.lemmas.Bool.{cases_Bool, ltb-true}
+use Rattle.std.proofs.lemmas.Bool.{cases_Bool}
 use Rattle.std.proofs.lemmas.List.{get_or-set_same, length-set, set-get_or, set-set}
 use Rattle.std.proofs.lemmas.List.Sums.{sum_by-set}
 use Rattle.bs_board.proofs.Chains.{and_both}
@@ -18,7 +18,7 @@ use Rattle.bs_sched.specs.Core.{CoreView}
 use Rattle.bs_sched.specs.Games.{GamesView, after}
 use Rattle.bs_sched.specs.Isolation.{opened_lanes}
 use Rattle.bs_sched.specs.Lane.{Lane, answered, forked, goes_on, has_begin, has_join, is_idle, is_quiet, no_lane, occupies, with_put, with_taken}
-use Rattle.bs_sched.specs.Machine.{is_busy, is_enabled_there, lane_effect, lane_of}
+use Rattle.bs_sched.specs.Machine.{is_busy, is_enabled_there, lane_of}
 use Rattle.bs_sched.specs.inner.Answering.{games_after}
 use Rattle.bs_sched.proofs.HereLanes.{ready_here, waits_here}
 use Rattle.bs_sched.proofs.HereRun.{Step, event_of, events_of, jobs, jobs_are, put, take}

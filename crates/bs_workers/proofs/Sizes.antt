@@ -13,7 +13,7 @@ use Rattle.bs_fiber.specs.declared.job.JobKind.TheVariants as kind
 use Rattle.bs_sched.specs.declared.event.Event.{Event}
 use Rattle.bs_sched.specs.declared.event.Event.TheVariants as event
 use Rattle.bs_sched.specs.Frames.{flattened}
-use Rattle.bs_sched.specs.Games.{answer_effect, storage_after, storage_answered, storage_put, storage_taken}
+use Rattle.bs_sched.specs.Games.{answer_effect, storage_after, storage_put, storage_taken}
 use Rattle.bs_sched.specs.Lane.{Lane, forked, goes_on}
 use Rattle.bs_sched.specs.Machine.{lane_of}
 use Rattle.bs_sched.specs.Storage.{Storage, frame_tag, frames_of, packing_of, pool_after, record_tag, stored, with_parts}

@@ -1,5 +1,5 @@
 -- The admission is the act. If its event is enabled, only memory is a reason to refuse it.
-use Rattle.std.proofs.Common.{refl, sym, ap, subst, ◌∙◌}
+use Rattle.std.proofs.Common.{sym, ap, subst, ◌∙◌}
 use Rattle.bs_sched.specs.Journal.{setting_in}
 use Rattle.bs_workers.specs.declared.act.Act.TheVariants as act
 use Rattle.bs_workers.specs.Causes.{IsCause}
