@@ -1,6 +1,6 @@
 -- What the comparison of a core with a run checks, and the state of an idle core that has made the
 -- acts.
-use Rattle.std.proofs.Common.{◌≡◌, ℕ, ◌+◌, ◌<◌, true, List, [], ◌∷◌, ◌++◌, length, take, get_or, refl, sym, ap, subst, ◌∙◌, arith, inl, inr}
+use Rattle.std.proofs.Common.{◌≡◌, ℕ, ◌+◌, ◌<◌, true, false, List, [], ◌∷◌, ◌++◌, length, take, get_or, refl, sym, ap, subst, ◌∙◌, arith, inl, inr}
 use Rattle.std.specs.Prelude.{if◌then◌else◌, nat_eq, count_by}
 use Rattle.std.specs.List.{filter_map, list_all}
 use Rattle.std.proofs.Math.Seq.{take-append_seam}
@@ -135,21 +135,18 @@ plan_of plan rows more lanes admitted has made counted =
     let lengths : length plan ≡ length rows = omega (arith, counted, all, there) in
     sym (take-append_seam plan more) ∙ ap (λ n. take n (plan ++ more)) lengths ∙ ap (λ every. take (length rows) every) (sym made) ∙ has.first
 
-pub run_of : (cap : ℕ) (rows : List GameRow) (admitted blocks : ℕ) (acts : List Act) (old new : CoreView) → KeepsApart cap new
-    → HasEnded rows admitted blocks new → admitted ≡ count_by is_admission acts → acts_of new.journal ≡ acts → rows ≡ old.games.rows
-    → blocks ≡ size old.games.storage.pool → IsRunOf old acts new
-run_of cap rows admitted blocks acts old new apart ended counted acted same many =
-    let made : rows_made new.games.lanes ≡ new.games.rows ++ rows_admitted acts
-    = made_of cap new apart ∙ ap (λ all. new.games.rows ++ rows_admitted all) acted in
-    let plan : new.games.rows ≡ old.games.rows
-    = plan_of new.games.rows rows (rows_admitted acts) new.games.lanes admitted ended.stays made (counted ∙ admitted_counted acts) ∙ same in
-    let stays : rows_made new.games.lanes ≡ old.games.rows ++ rows_admitted acts = made ∙ ap (λ first. first ++ rows_admitted acts) plan in
+-- a core of that plan, which makes the acts and is idle, is the result of their run
+pub run_made : (cap : ℕ) (acts : List Act) (old new : CoreView) → KeepsApart cap new → acts_of new.journal ≡ acts → new.games.rows ≡ old.games.rows
+    → size new.games.storage.pool ≡ size old.games.storage.pool → new.games.failed ≡ false → list_all is_quiet new.games.lanes ≡ true → IsRunOf old acts new
+run_made cap acts old new apart acted plan blocks works quiet =
+    let stays : rows_made new.games.lanes ≡ old.games.rows ++ rows_admitted acts
+    = made_of cap new apart ∙ ap (λ all. new.games.rows ++ rows_admitted all) acted ∙ ap (λ first. first ++ rows_admitted acts) plan in
     record {
       plan = plan;
       stays = stays;
-      blocks = ended.as_many ∙ many;
-      failed = ended.failed;
-      quiet = ended.quiet;
+      blocks = blocks;
+      failed = works;
+      quiet = quiet;
       acted = acted;
       served =
           λ stay within.
@@ -159,9 +156,19 @@ run_of cap rows admitted blocks acts old new apart ended counted acted same many
           let row : x.row ≡ row_at (old.games.rows ++ rows_admitted acts) stay
           = sym (row_there new.games.lanes stay) ∙ ap (λ all. row_at all stay) stays in
           let one : IsServedAlone x.row (filter_map (command_in stay) acts) x
-          = subst (λ all. IsServedAlone x.row (filter_map (command_in stay) all) x) acted (served_one cap new stay apart ended.quiet there) in
+          = subst (λ all. IsServedAlone x.row (filter_map (command_in stay) all) x) acted (served_one cap new stay apart quiet there) in
           subst (λ r. IsServedAlone r (filter_map (command_in stay) acts) x) row one;
     }
+
+pub run_of : (cap : ℕ) (rows : List GameRow) (admitted blocks : ℕ) (acts : List Act) (old new : CoreView) → KeepsApart cap new
+    → HasEnded rows admitted blocks new → admitted ≡ count_by is_admission acts → acts_of new.journal ≡ acts → rows ≡ old.games.rows
+    → blocks ≡ size old.games.storage.pool → IsRunOf old acts new
+run_of cap rows admitted blocks acts old new apart ended counted acted same many =
+    let made : rows_made new.games.lanes ≡ new.games.rows ++ rows_admitted acts
+    = made_of cap new apart ∙ ap (λ all. new.games.rows ++ rows_admitted all) acted in
+    let plan : new.games.rows ≡ old.games.rows
+    = plan_of new.games.rows rows (rows_admitted acts) new.games.lanes admitted ended.stays made (counted ∙ admitted_counted acts) ∙ same in
+    run_made cap acts old new apart acted plan (ended.as_many ∙ many) ended.failed ended.quiet
 
 -- a run has ended
 

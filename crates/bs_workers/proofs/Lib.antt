@@ -1,5 +1,8 @@
 pub mod AcceptableActs
 pub mod Acted
+pub mod Calm
 pub mod Compared
 pub mod MadeActs
 pub mod Played
+pub mod RunAlone
+pub mod Sizes

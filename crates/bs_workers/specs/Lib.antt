@@ -1,4 +1,5 @@
 pub mod Acceptable
 pub mod Acts
+pub mod Causes
 pub mod Run
 pub mod inner

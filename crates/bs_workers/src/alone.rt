@@ -1,18 +1,23 @@
 //! A run on the calling thread alone. Nothing else has the core, so what each call does to it is
-//! known, and each command is answered where it is: the acts need no comparison.
-ghost use Rattle.std.specs.Prelude.{◌≡◌, ◌≤◌, ◌∷◌, ◌++◌, [], IfOk, OnOk, IsTrue, map};
+//! known, and each command is answered where it is: nothing is compared, and the run ends.
+ghost use Rattle.std.specs.Prelude.{◌≡◌, ◌+◌, ◌≤◌, ◌∷◌, ◌++◌, [], true, false, IfErr, IfOk, OnOk, IsTrue, map};
 ghost use Rattle.std.specs.List.{filter_map};
 ghost use Rattle.bs_pool.specs.Ledger.{size};
+ghost use Rattle.bs_sched.specs.Answering.{HasNoneWaiting};
 ghost use Rattle.bs_sched.specs.Core.{opened_core};
+ghost use Rattle.bs_sched.specs.Journal.{KeepsApart, setting_in};
+ghost use Rattle.bs_sched.specs.Machine.{is_enabled};
 ghost use Rattle.bs_sched.specs.declared.event.Event.TheVariants as event;
-ghost use Rattle.bs_workers.specs.Acts.{command_in};
+ghost use Rattle.bs_workers.specs.Acceptable.{MayBeMade};
+ghost use Rattle.bs_workers.specs.Acts.{are_acceptable, capacity_of_core, command_in, opened};
+ghost use Rattle.bs_workers.specs.Causes.{IsCause};
 ghost use Rattle.bs_workers.specs.Run.{IsRunOf};
 ghost use Rattle.bs_workers.specs.inner.Apart.{IsPlayed, acts_at};
-ghost use Rattle.bs_workers.specs.inner.Making.{Makes};
+ghost use Rattle.bs_workers.specs.inner.Faults.{refused_fault};
+ghost use Rattle.bs_workers.specs.inner.Making.{AreNext, IsCalm, IsNext, Makes, waiting_in};
 ghost use Rattle.bs_workers.specs.declared.act.Act.TheVariants as act;
 
 use crate::act::Act;
-use crate::compare::{copy_rows, has_ended_run};
 use crate::fault::Run;
 use crate::gate::Gate;
 use crate::places::Places;
@@ -20,6 +25,18 @@ use bs_board::Row;
 use bs_fiber::{Handles, JobKind, JobName};
 use bs_sched::{Admit, Core, Leave, NextCommand};
 use std::alloc::Global;
+
+/// The fault of a run whose core refuses an admission.
+fn fault_of(refusal: Admit) -> Run
+    ensures { result ≡ refused_fault refusal }
+{
+    match refusal {
+        Admit::Memory => Run::Memory,
+        Admit::NameOpen => Run::Broken,
+        Admit::Full => Run::Broken,
+        Admit::Short { .. } => Run::Broken,
+    }
+}
 
 /// A core, and the thread that makes its acts and runs its jobs.
 #[derive(Drop)]
@@ -32,15 +49,15 @@ pub(crate) struct Alone<'a, const CAP: usize, G> {
     pub(crate) thread: usize,
     /// The worker in the core.
     pub(crate) worker: usize,
-    /// How many commands were queued since all were answered.
-    pub(crate) waiting: usize,
     pub(crate) gate: &'a G,
 }
 
 impl<const CAP: usize, G: Gate> Alone<'_, CAP, G> {
     /// Whether the gate lets the job pass.
     #[inline(always)]
-    fn may_run(&self, job: JobName) -> bool {
+    pub(crate) fn may_run(&self, job: JobName) -> bool
+        ensures { result ≡ false → G.may_refuse self.now.gate.now }
+    {
         let game = job.game.saturating_add(self.first);
         self.gate.at(
             self.thread,
@@ -53,7 +70,9 @@ impl<const CAP: usize, G: Gate> Alone<'_, CAP, G> {
     }
 
     /// Whether the gate lets that many parts of the game's move pass, one after the other.
-    fn may_run_parts(&self, game: u32, parts: u8) -> bool {
+    fn may_run_parts(&self, game: u32, parts: u8) -> bool
+        ensures { result ≡ false → G.may_refuse self.now.gate.now }
+    {
         for part in 0..parts {
             let job = JobName {
                 kind: JobKind::Part,
@@ -69,7 +88,9 @@ impl<const CAP: usize, G: Gate> Alone<'_, CAP, G> {
 
     /// Whether the gate lets each job of the command pass, in their order.
     #[inline(always)]
-    fn may_answer(&self, next: NextCommand) -> bool {
+    fn may_answer(&self, next: NextCommand) -> bool
+        ensures { result ≡ false → G.may_refuse self.now.gate.now }
+    {
         let game = next.game;
         let begin = JobName {
             kind: JobKind::Begin,
@@ -87,12 +108,16 @@ impl<const CAP: usize, G: Gate> Alone<'_, CAP, G> {
         self.may_run(begin) && self.may_run_parts(game, next.parts) && self.may_run(join)
     }
 
-    /// Answers the next command. Returns false if there is none.
+    /// Answers the next command, so that one command fewer waits. Returns false if none waits.
     #[inline(always)]
-    fn step(&mut self) -> Result<bool, Run>
+    pub(crate) fn step(&mut self) -> Result<bool, Run>
         requires { self.old.worker ≤ self.old.core.games.workers }
         ensures made { OnOk result (Makes [] self.old.core self.new.core) }
+        ensures fewer { IfOk result (λ more. more ≡ true → waiting_in self.new.core.games.lanes + 1 ≡ waiting_in self.old.core.games.lanes) }
+        ensures none { IfOk result (λ more. more ≡ false → HasNoneWaiting self.new.core self.old.worker) }
         ensures worker { self.new.worker ≡ self.old.worker }
+        ensures gate { self.new.gate ≡ self.old.gate }
+        ensures cause { IfErr result (IsCause (G.may_refuse self.old.gate.now)) }
     {
         let Some(next) = self.core.next_command(self.worker) else {
             return Ok(false);
@@ -105,51 +130,59 @@ impl<const CAP: usize, G: Gate> Alone<'_, CAP, G> {
         Ok(true)
     }
 
-    /// Answers all commands that are queued, at most as many as `waiting`.
+    /// Answers all commands that wait, one in each turn of the loop.
     #[tactic(auto, using(crate::proofs::MadeActs::makes_none, crate::proofs::MadeActs::makes_after))]
-    fn answer_all(&mut self) -> Result<(), Run>
+    pub(crate) fn answer_all(&mut self) -> Result<(), Run>
         requires { self.old.worker ≤ self.old.core.games.workers }
         ensures made { OnOk result (Makes [] self.old.core self.new.core) }
+        ensures none { OnOk result (HasNoneWaiting self.new.core self.old.worker) }
         ensures worker { self.new.worker ≡ self.old.worker }
+        ensures gate { self.new.gate ≡ self.old.gate }
+        ensures cause { IfErr result (IsCause (G.may_refuse self.old.gate.now)) }
     {
-        for _ in 0..self.waiting {
+        'commands: loop {
             if !self.step()? {
-                break;
+                return Ok(());
             }
         }
-        self.waiting = 0;
-        Ok(())
     }
 
-    /// Queues the command for the game of that row.
+    /// Queues the command for the game of that row. `Broken` if the stay is not open.
     fn hand(&mut self, stay: usize, command: Handles) -> Result<(), Run>
         ensures made { OnOk result (Makes (act.Hand stay command ∷ []) self.old.core self.new.core) }
         ensures journal { OnOk result (self.new.core.journal ≡ self.old.core.journal ++ event.Hand stay command ∷ []) }
         ensures worker { self.new.worker ≡ self.old.worker }
+        ensures gate { self.new.gate ≡ self.old.gate }
+        ensures cause { is_enabled (setting_in CAP self.old.core) self.old.core.games.lanes (event.Hand stay command) ≡ true
+            → IfErr result (IsCause (G.may_refuse self.old.gate.now)) }
     {
         if stay >= self.core.rows() || !self.core.is_open(stay) {
             return Err(Run::Broken);
         }
-        self.waiting = self.waiting.saturating_add(1);
         Ok(self.core.hand_handles(stay, command)?)
     }
 
-    /// Admits a game. If the acts are acceptable, the core refuses it only when memory runs out.
+    /// Admits a game. `Broken` if the core refuses it for a reason other than memory.
     fn admit(&mut self, row: Row) -> Result<(), Run>
         ensures made { OnOk result (Makes (act.Admit row ∷ []) self.old.core self.new.core) }
         ensures worker { self.new.worker ≡ self.old.worker }
+        ensures gate { self.new.gate ≡ self.old.gate }
+        ensures cause { is_enabled (setting_in CAP self.old.core) self.old.core.games.lanes (event.Admit row) ≡ true
+            → IfErr result (IsCause (G.may_refuse self.old.gate.now)) }
     {
         match self.core.admit(self.alloc, row) {
             Ok(_) => Ok(()),
-            Err(Admit::Memory) => Err(Run::Memory),
-            Err(_) => Err(Run::Broken),
+            Err(refusal) => Err(fault_of(refusal)),
         }
     }
 
-    /// Dismisses the game of that row, which has nothing left to do.
+    /// Dismisses the game of that row. `Broken` if it has left or has something left to do.
     fn leave(&mut self, stay: usize) -> Result<(), Run>
         ensures made { OnOk result (Makes (act.Leave stay ∷ []) self.old.core self.new.core) }
         ensures worker { self.new.worker ≡ self.old.worker }
+        ensures gate { self.new.gate ≡ self.old.gate }
+        ensures cause { is_enabled (setting_in CAP self.old.core) self.old.core.games.lanes (event.Leave stay) ≡ true
+            → IfErr result (IsCause (G.may_refuse self.old.gate.now)) }
     {
         if stay >= self.core.rows() {
             return Err(Run::Broken);
@@ -161,18 +194,36 @@ impl<const CAP: usize, G: Gate> Alone<'_, CAP, G> {
         }
     }
 
+    /// Does nothing. Gives the prover that an act may be made if it is acceptable after those that
+    /// the core has made.
+    fn keeps_acceptable(&self, next: &Act)
+        ensures { IsNext CAP self.now.core next.now → MayBeMade (setting_in CAP self.now.core) self.now.core.games.lanes next.now }
+    {
+        let _journal = self.core.journal();
+    }
+
     /// Makes the act. Before a game leaves, all commands are answered.
     #[tactic(auto, using(crate::proofs::MadeActs::makes_after))]
     fn make(&mut self, next: &Act) -> Result<(), Run>
         requires { self.old.worker ≤ self.old.core.games.workers }
         ensures made { OnOk result (Makes (next.now ∷ []) self.old.core self.new.core) }
         ensures worker { self.new.worker ≡ self.old.worker }
+        ensures gate { self.new.gate ≡ self.old.gate }
+        ensures cause { IsCalm self.old.core → IsNext CAP self.old.core next.now
+            → IfErr result (IsCause (G.may_refuse self.old.gate.now)) }
     {
         match next {
-            Act::Hand(stay, command) => self.hand(*stay, Handles::new(command)?),
-            Act::Admit(row) => self.admit(row.get().copy(self.alloc)?),
+            Act::Hand(stay, command) => {
+                self.keeps_acceptable(next);
+                self.hand(*stay, Handles::new(command)?)
+            }
+            Act::Admit(row) => {
+                self.keeps_acceptable(next);
+                self.admit(row.get().copy(self.alloc)?)
+            }
             Act::Leave(stay) => {
                 self.answer_all()?;
+                self.keeps_acceptable(next);
                 self.leave(*stay)
             }
         }
@@ -198,7 +249,7 @@ impl<const CAP: usize, G: Gate> Alone<'_, CAP, G> {
 
     /// Queues the commands of the acts at these places in the core's row 0, if they are for that
     /// row of the run.
-    fn queue(&mut self, row: usize, acts: &[Act], places: &[usize]) -> Result<(), Run>
+    pub(crate) fn queue(&mut self, row: usize, acts: &[Act], places: &[usize]) -> Result<(), Run>
         ensures journal { OnOk result (self.new.core.journal
             ≡ self.old.core.journal ++ map (event.Hand 0) (filter_map (command_in row) (acts_at acts.now places.now))) }
         ensures worker { self.new.worker ≡ self.old.worker }
@@ -213,7 +264,7 @@ impl<const CAP: usize, G: Gate> Alone<'_, CAP, G> {
     }
 
     /// Whether the core has no event yet.
-    fn is_new(&self) -> bool
+    pub(crate) fn is_new(&self) -> bool
         ensures { IsTrue result → self.now.core.journal ≡ [] }
     {
         match self.core.journal().as_slice() {
@@ -249,7 +300,10 @@ impl<const CAP: usize, G: Gate> Alone<'_, CAP, G> {
     #[tactic(auto, using(crate::proofs::MadeActs::makes_none, crate::proofs::MadeActs::makes_next, crate::proofs::MadeActs::makes_all))]
     fn make_all(&mut self, acts: &[Act]) -> Result<(), Run>
         requires { self.old.worker ≤ self.old.core.games.workers }
-        ensures { OnOk result (Makes acts.now self.old.core self.new.core) }
+        ensures made { OnOk result (Makes acts.now self.old.core self.new.core) }
+        ensures none { OnOk result (HasNoneWaiting self.new.core self.old.worker) }
+        ensures cause { IsCalm self.old.core → AreNext CAP self.old.core acts.now
+            → IfErr result (IsCause (G.may_refuse self.old.gate.now)) }
     {
         for next in acts {
             self.make(next)?;
@@ -259,7 +313,15 @@ impl<const CAP: usize, G: Gate> Alone<'_, CAP, G> {
     }
 }
 
-/// Like `run_any`, on the calling thread alone, which has that number.
+/// Does nothing. Gives the prover the stays of a core, which its journal determines.
+fn keeps_apart<const CAP: usize>(core: &Core<CAP>)
+    ensures { KeepsApart CAP core.now }
+{
+    let _journal = core.journal();
+}
+
+/// Like `run_any`, on the calling thread alone, which has that number. If the acts are acceptable,
+/// only a gate that may refuse makes the run `Broken`.
 pub(crate) fn run_alone<const CAP: usize, G: Gate>(
     alloc: Global,
     core: Core<CAP>,
@@ -269,10 +331,10 @@ pub(crate) fn run_alone<const CAP: usize, G: Gate>(
 ) -> Result<Core<CAP>, Run>
     requires { core
         ≡ opened_core CAP (size core.games.storage.pool) core.games.workers core.games.rows }
-    ensures { IfOk result (λ done. IsRunOf core.entry acts.now done) }
+    ensures run { IfOk result (λ done. IsRunOf core.entry acts.now done) }
+    ensures cause { are_acceptable (capacity_of_core CAP core.entry) (opened core.entry.games.rows) acts.now ≡ true
+        → IfErr result (IsCause (G.may_refuse gate.now)) }
 {
-    let rows = copy_rows(alloc, &core)?;
-    let blocks = core.counts().size;
     let worker = core.workers();
     let mut alone = Alone {
         alloc,
@@ -280,14 +342,10 @@ pub(crate) fn run_alone<const CAP: usize, G: Gate>(
         first: 0,
         thread,
         worker,
-        waiting: 0,
         gate,
     };
     alone.make_all(acts)?;
     let Alone { core, .. } = alone;
-    if has_ended_run(&core, rows.as_slice(), blocks, acts) {
-        Ok(core)
-    } else {
-        Err(Run::Broken)
-    }
+    keeps_apart(&core);
+    Ok(core)
 }

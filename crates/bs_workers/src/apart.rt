@@ -156,7 +156,6 @@ impl<R: Threads + Wait + Sync, G: Gate> Apart<'_, R, G> {
             first,
             thread,
             worker: thread,
-            waiting: 0,
             gate: self.gate,
         };
         let core = alone.play(row, self.acts, self.places)?;

@@ -170,7 +170,7 @@ pub(crate) fn has_ended_run<const CAP: usize>(
 ) -> bool
     requires { acts_of core.now.journal ≡ acts.now }
     ensures { (old : CoreView) → rows.now ≡ old.games.rows → blocks ≡ size old.games.storage.pool
-        → IsTrue result → IsRunOf old acts.now core.now }
+        → (IsTrue result ↔ IsRunOf old acts.now core.now) }
 {
     let _journal = core.journal();
     has_ended(core, rows, count_admitted(acts), blocks)

@@ -10,4 +10,4 @@ returns-then-has_ended_run g c =
     let fresh = rows_fresh g.row.CAP (size core.games.storage.pool) core.games.workers core.games.rows core c.requires in
     let many = c.in_ok-rows.ensures.blocks in
     let same = c.in_ok-rows.blocks-is in
-    c.has_ended_run.ensures core (c.as_slice-6.ensures.value ∙ c.in_ok-given.ensures ∙ fresh) (omega (arith, many, same)) c.if-has_ended_run.true
+    (c.has_ended_run.ensures core (c.as_slice-6.ensures.value ∙ c.in_ok-given.ensures ∙ fresh) (omega (arith, many, same))).0 c.if-has_ended_run.true
