@@ -12,8 +12,7 @@ use bs_transcript::{TranscriptFault, WriteCalls};
 use bs_workers::Act;
 use std::alloc::Global;
 use std::io::Write;
-use std::sync::Wait;
-use std::thread::{self, Threads};
+use std::thread::{Threads, join};
 
 /// A finished core, the acts of its run, and the stray lines of its file.
 #[derive(Drop)]
@@ -26,7 +25,7 @@ pub(crate) struct Played {
 impl Played {
     /// Writes the transcript, and returns the core. If there may be several threads, one of them
     /// frees the acts meanwhile.
-    pub(crate) fn write<R: Threads + Wait + Sync, W: Write, C: WriteCalls<W>>(
+    pub(crate) fn write<R: Threads + Sync, W: Write, C: WriteCalls<W>>(
         self,
         rt: &R,
         alloc: Global,
@@ -43,18 +42,19 @@ impl Played {
             core: &core,
             strays: strays.as_slice(),
         };
-        let (written, _output) = thread::scope(
-            thread::scope_env(),
+        if threads <= 1 {
+            write_core::<R, W, C>(rt, alloc, file, threads, output)?;
+            return Ok(core);
+        }
+        let (_, (written, _output)) = join(
             rt,
-            move |scope| -> (Result<(), TranscriptFault>, &mut W)
+            move || drop(acts),
+            move || -> (Result<(), TranscriptFault>, &mut W)
                 ensures written { OnOk result.0 (Appends (W.contents output.entry.now) (W.contents result.1.now) (core_text_of file.entry.core.now file.entry.strays.now)) }
                 ensures left { IfErr result.0 (Leaves W.contents (core_text_of file.entry.core.now file.entry.strays.now) output.entry.now result.1.now) }
                 ensures failed { IfErr result.0 (HasCause (C.has_failed result.1.now)) }
                 ensures same { result.1.ghost_name ≡ output.entry.ghost_name }
             {
-                if threads > 1 {
-                    let _started = scope.spawn(move || drop(acts));
-                }
                 let written = write_core::<R, W, C>(rt, alloc, file, threads, output);
                 (written, output)
             },

@@ -13,7 +13,6 @@ use bs_sched::Core;
 use bs_transcript::{Section, Transcript, TranscriptFault, WriteCalls, write_transcript_by};
 use std::alloc::{AllocError, Global};
 use std::io::Write;
-use std::sync::Wait;
 use std::thread::Threads;
 
 /// The section of one stay: its name, its replies, its last board and its charge.
@@ -52,7 +51,7 @@ pub(crate) struct PlayedFile<'c> {
 }
 
 /// Writes the sections of all stays in the order of their rows, then the stray lines.
-pub(crate) fn write_core<R: Threads + Wait + Sync, W: Write, C: WriteCalls<W>>(
+pub(crate) fn write_core<R: Threads + Sync, W: Write, C: WriteCalls<W>>(
     rt: &R,
     alloc: Global,
     file: PlayedFile<'_>,

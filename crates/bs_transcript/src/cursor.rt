@@ -4,6 +4,7 @@ ghost use Rattle.bs_json.specs.Text.{put};
 ghost use Rattle.bs_transcript.specs.inner.Between.{between, lines_of_first};
 ghost use Rattle.bs_transcript.specs.inner.Parts.{all_lines_of, lines_of_part};
 
+use crate::finished::Limits;
 use crate::section::{Part, Section};
 use bs_json::{Stray, TextBuffer};
 use std::marker::{Brand, PhantomData};
@@ -106,12 +107,16 @@ impl<'t, L: Lines> Cursor<'t, L> {
         self.part().push_line(self.index, text);
     }
 
-    /// Appends the next lines, as long as there is room for the longest, up to that number.
-    pub(crate) fn render(&mut self, end: usize, longest: usize, text: &mut TextBuffer)
+    /// Appends the next lines within these limits, as long as there is room for the longest.
+    pub(crate) fn render(&mut self, limits: Limits<'_>, text: &mut TextBuffer)
         ensures later { self.old.number ≤ self.new.number }
         ensures text { text.new ≡ put text.old (between self.old.number self.new.number L.lines) }
     {
-        'lines: while self.number < end && self.has_line() && text.left() >= longest {
+        'lines: while self.number < limits.end
+            && self.has_line()
+            && text.left() >= limits.longest
+            && !limits.finished.has(limits.threads)
+        {
             self.push_line(text);
             self.advance();
         }

@@ -4,13 +4,14 @@
 
 mod bounds;
 mod calls;
-mod channel;
 mod cursor;
 mod fault;
+mod finished;
 mod line_buffer;
 mod lines;
 mod rendered;
-mod round_robin;
+mod renderer;
+mod round;
 mod section;
 mod together;
 mod write;

@@ -14,7 +14,6 @@ use bs_json::Stray;
 use std::alloc::{AllocError, Global};
 use std::io::Write;
 use std::marker::Brand;
-use std::sync::Wait;
 use std::thread::Threads;
 
 /// The least sum of the bounds of the lines for each rendering thread, in bytes. Rendering such
@@ -45,7 +44,7 @@ fn write_alone<W: Write, C: WriteCalls<W>>(
 }
 
 /// Like `write_transcript`, by the calls `C`: a fault of the writer is a call that failed.
-pub fn write_transcript_by<R: Threads + Wait + Sync, W: Write, C: WriteCalls<W>>(
+pub fn write_transcript_by<R: Threads + Sync, W: Write, C: WriteCalls<W>>(
     rt: &R,
     alloc: Global,
     transcript: Transcript<'_>,
@@ -62,6 +61,9 @@ pub fn write_transcript_by<R: Threads + Wait + Sync, W: Write, C: WriteCalls<W>>
     }
     let bounds = bound_all(sections, strays)?;
     let most = (bounds.total / FEWEST_BYTES).min(MOST_RENDERERS);
+    if most == 0 {
+        return write_alone::<W, C>(alloc, sections, strays, output);
+    }
     let source = Source {
         sections,
         strays,
@@ -72,12 +74,12 @@ pub fn write_transcript_by<R: Threads + Wait + Sync, W: Write, C: WriteCalls<W>>
 
 /// Writes the games' sections in order, then the lines that belong to no game, each with its number
 /// in the file. First bounds the length of each line, then allocates buffers with room for the
-/// greatest of these bounds besides: one of 64 KiB for the calling thread, and four of 128 KiB for
-/// each thread that renders beside it. There are at most `threads` threads with the calling one.
-/// Allocates nothing and starts no thread once the first byte is written. If memory runs out the
-/// writer is unchanged; if the writer fails it has the first bytes of the text, as many as the fault
-/// says.
-pub fn write_transcript<R: Threads + Wait + Sync, W: Write>(
+/// greatest of these bounds besides: one of 64 KiB for the calling thread, and if others render
+/// beside it two of 512 KiB for each thread. There are at most `threads` threads with the calling
+/// one, and all are joined. Allocates nothing once the first byte is written. If memory runs out
+/// the writer is unchanged; if the writer fails it has the first bytes of the text, as many as the
+/// fault says.
+pub fn write_transcript<R: Threads + Sync, W: Write>(
     rt: &R,
     alloc: Global,
     transcript: Transcript<'_>,

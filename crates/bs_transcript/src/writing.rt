@@ -5,20 +5,22 @@ ghost use Rattle.bs_transcript.specs.inner.Buffer.{IsOnItsWay};
 ghost use Rattle.bs_transcript.specs.Written.{IsCutOff};
 
 use crate::calls::WriteCalls;
-use crate::channel::Channel;
 use crate::cursor::{Cursor, Lines};
+use crate::finished::Finished;
 use crate::line_buffer::LineBuffer;
 use crate::rendered::Rendered;
-use crate::round_robin::RoundRobin;
+use crate::renderer::Renderer;
+use crate::round::Round;
 use crate::write::WriteFault;
 use std::io::Write;
-use std::sync::Wait;
 
 /// The lines before a place are written, or in the buffer.
 #[derive(Drop)]
 pub(crate) struct Writing<'t, L: Lines> {
     pub(crate) buffer: LineBuffer,
     pub(crate) at: Cursor<'t, L>,
+    /// What the calling thread renders of the next round.
+    pub(crate) own: Renderer<'t, L>,
 }
 
 impl<L: Lines> Writing<'_, L> {
@@ -75,37 +77,25 @@ impl<L: Lines> Writing<'_, L> {
         Ok(true)
     }
 
-    /// Writes the lines up to that number as they are handed over.
-    fn write_handed<R: Wait, W: Write, C: WriteCalls<W>>(
+    /// Writes rendered lines, and before them those up to theirs, which it renders itself.
+    fn write_next<W: Write, C: WriteCalls<W>>(
         &mut self,
-        rt: &R,
-        channel: &Channel<L>,
-        end: usize,
+        rendered: &Rendered<L>,
         output: &mut W,
     ) -> Result<(), WriteFault>
         ensures sent { (first : Option (List ℕ)) (text : List ℕ) → IsOnItsWay first (W.contents output.old) self.old.buffer text (drop self.old.at.number L.lines)
             → MatchResult result (λ _. IsOnItsWay first (W.contents output.new) self.new.buffer text (drop self.new.at.number L.lines)) (λ fault. IsCutOff fault.written first (W.contents output.new) text) }
-        ensures later { OnOk result (self.old.at.number ≤ self.new.at.number) }
         ensures failed { OnErr result (C.has_failed output.new) }
     {
-        'lines: while self.at.number < end {
-            let Some(rendered) = channel.take_rendered(rt) else {
-                break;
-            };
-            let is_next = self.write_rendered::<W, C>(&rendered, output)?;
-            channel.put_empty(rt, rendered.text);
-            if !is_next {
-                break;
-            }
-        }
+        self.push_until::<W, C>(rendered.from, output)?;
+        self.write_rendered::<W, C>(rendered, output)?;
         Ok(())
     }
 
-    /// Writes a share: the lines that a thread hands over, and renders the others itself.
-    fn write_share<R: Wait, W: Write, C: WriteCalls<W>>(
+    /// Writes rendered lines in their order, then the lines up to that number.
+    fn write_round<W: Write, C: WriteCalls<W>>(
         &mut self,
-        rt: &R,
-        channel: Option<&Channel<L>>,
+        rendered: &[Rendered<L>],
         end: usize,
         output: &mut W,
     ) -> Result<(), WriteFault>
@@ -114,31 +104,42 @@ impl<L: Lines> Writing<'_, L> {
         ensures end { OnOk result (min end (length L.lines) ≤ self.new.at.number) }
         ensures failed { OnErr result (C.has_failed output.new) }
     {
-        if let Some(channel) = channel {
-            self.write_handed::<R, W, C>(rt, channel, end, output)?;
+        for lines in rendered {
+            self.write_next::<W, C>(lines, output)?;
         }
         self.push_until::<W, C>(end, output)?;
         Ok(())
     }
 
-    /// Writes all lines, share by share.
-    pub(crate) fn write_all<R: Wait, W: Write, C: WriteCalls<W>>(
+    /// Writes rendered lines, and those up to the next round; then renders its own lines of that
+    /// round, until the other threads have.
+    pub(crate) fn with_round<W: Write, C: WriteCalls<W>>(
+        mut self,
+        rendered: &[Rendered<L>],
+        next: Round,
+        finished: &Finished,
+        output: &mut W,
+    ) -> Result<Self, WriteFault>
+        ensures sent { (first : Option (List ℕ)) (text : List ℕ) → IsOnItsWay first (W.contents output.old) self.entry.buffer text (drop self.entry.at.number L.lines)
+            → MatchResult result (λ writing. IsOnItsWay first (W.contents output.new) writing.buffer text (drop writing.at.number L.lines)) (λ fault. IsCutOff fault.written first (W.contents output.new) text) }
+        ensures end { IfOk result (λ writing. min next.first (length L.lines) ≤ writing.at.number) }
+        ensures failed { OnErr result (C.has_failed output.new) }
+    {
+        self.write_round::<W, C>(rendered, next.first(), output)?;
+        self.own.render(next.own_line(), next.own_limits(finished));
+        Ok(self)
+    }
+
+    /// Writes what is in the buffer once no line is left.
+    pub(crate) fn write_last<W: Write, C: WriteCalls<W>>(
         &mut self,
-        rt: &R,
-        channels: &[Channel<L>],
-        mut order: RoundRobin,
         output: &mut W,
     ) -> Result<(), WriteFault>
+        requires { length L.lines ≤ self.old.at.number }
         ensures sent { (first : Option (List ℕ)) (text : List ℕ) → IsOnItsWay first (W.contents output.old) self.old.buffer text (drop self.old.at.number L.lines)
             → MatchResult result (λ _. Appends first (W.contents output.new) text) (λ fault. IsCutOff fault.written first (W.contents output.new) text) }
         ensures failed { OnErr result (C.has_failed output.new) }
     {
-        'shares: while self.at.has_line() {
-            let end = order.end(self.at.number);
-            let channel = order.thread().and_then(|thread| channels.get(thread));
-            self.write_share::<R, W, C>(rt, channel, end, output)?;
-            order.advance();
-        }
         self.buffer.write_out::<W, C>(output)?;
         Ok(())
     }

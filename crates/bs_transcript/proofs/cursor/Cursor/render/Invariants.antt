@@ -8,4 +8,4 @@ abbrev pub invariant-lines : goal.invariant-lines
 invariant-lines g l = (l.fn.self.number ≤ l.self.number) × (l.text ≡ put l.fn.text (between l.fn.self.number l.self.number g.L.Lines.lines))
 
 abbrev pub decreases-lines : goal.decreases-lines
-decreases-lines g l = l.end - l.self.number
+decreases-lines g l = l.limits.end - l.self.number
