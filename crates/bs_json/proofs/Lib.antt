@@ -1,4 +1,5 @@
 pub mod Ascending
+pub mod CellTexts
 pub mod CompactBytes
 pub mod CompactLines
 pub mod CutTexts

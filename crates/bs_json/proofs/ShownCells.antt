@@ -46,16 +46,6 @@ beyond_pieces t0 t1 t2 raised byte beyond one two = next _ _ _ _ _ one two ∙ a
 
 -- ---- a column and a row, with the text around them
 
-pub wide_column : (raised x : ℕ) → raised ≤ x → 10 ≤ x - raised → x - raised < 100
-    → codes "{\"x\":" ++ ((48 + (x - raised) / 10) ∷ (48 + (x - raised) % 10) ∷ []) ≡ codes "{\"x\":" ++ coordinate_text (pos x -ℤ pos raised)
-wide_column raised x inside many few =
-    ap (λ digits. codes "{\"x\":" ++ digits) (two_digits (x - raised) many few ∙ sym (coordinate_inside raised x inside))
-
-pub wide_row : (raised y : ℕ) → raised ≤ y → 10 ≤ y - raised → y - raised < 100
-    → codes ",\"y\":" ++ ((48 + (y - raised) / 10) ∷ (48 + (y - raised) % 10) ∷ codes "}") ≡ codes ",\"y\":" ++ (coordinate_text (pos y -ℤ pos raised) ++ codes "}")
-wide_row raised y inside many few =
-    ap (λ digits. codes ",\"y\":" ++ (digits ++ codes "}")) (two_digits (y - raised) many few ∙ sym (coordinate_inside raised y inside))
-
 pub column_pieces : (t0 t1 t2 : Text) (lead raised x : ℕ) → t1 ≡ put t0 (lead ∷ codes "{\"x\":") → t2 ≡ put t1 (coordinate_text (pos x -ℤ pos raised))
     → t2 ≡ put t0 (lead ∷ (codes "{\"x\":" ++ coordinate_text (pos x -ℤ pos raised)))
 column_pieces t0 t1 t2 lead raised x one two = next _ _ _ _ _ one two
@@ -70,12 +60,15 @@ pub cell_pieces : (t0 t1 t2 : Text) (lead raised x y : ℕ) → t1 ≡ put t0 (l
 unfolding escape_byte
 cell_pieces t0 t1 t2 lead raised x y one two = next _ _ _ _ _ one two
 
--- a cell near the origin, whose numbers have one digit each
-pub small_cell : (raised x y : ℕ) → raised ≤ x → raised ≤ y → x - raised < 10 → y - raised < 10
-    → codes "{\"x\":" ++ ((48 + (x - raised)) ∷ (codes ",\"y\":" ++ ((48 + (y - raised)) ∷ codes "}"))) ≡ compact_text (cell_data (cell_of raised x y))
-unfolding escape_byte
-small_cell raised x y inside_x inside_y few_x few_y =
-    sym (rw (coordinate_inside raised x inside_x, coordinate_inside raised y inside_y, decimal_digit (x - raised) few_x, decimal_digit (y - raised) few_y) refl)
+-- a cell of a board, from the texts of its column and its row
+pub near_cell : (t0 t1 t2 : Text) (column row : List ℕ) (lead raised x y wide high : ℕ) → raised ≤ x → raised ≤ y
+    → take (6 + length (decimal (x - raised))) column ≡ lead ∷ (codes "{\"x\":" ++ decimal (x - raised)) → take (6 + length (decimal (y - raised))) row ≡ codes ",\"y\":" ++ (decimal (y - raised) ++ codes "}")
+    → wide ≡ 6 + length (decimal (x - raised)) → high ≡ 6 + length (decimal (y - raised)) → t1 ≡ put t0 (take wide column) → t2 ≡ put t1 (take high row)
+    → t2 ≡ put t0 (lead ∷ compact_text (cell_data (cell_of raised x y)))
+near_cell t0 t1 t2 column row lead raised x y wide high inside_x inside_y column_is row_is wide_is high_is one two =
+    cell_pieces t0 t1 t2 lead raised x y
+    (one ∙ ap (put t0) (ap (λ (k : ℕ). take k column) wide_is ∙ column_is ∙ ap (λ digits. lead ∷ (codes "{\"x\":" ++ digits)) (sym (coordinate_inside raised x inside_x))))
+    (two ∙ ap (put t1) (ap (λ (k : ℕ). take k row) high_is ∙ row_is ∙ ap (λ digits. codes ",\"y\":" ++ (digits ++ codes "}")) (sym (coordinate_inside raised y inside_y))))
 
 -- ---- cells and their bytes
 

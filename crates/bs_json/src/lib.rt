@@ -3,6 +3,7 @@
 #![tactic(auto)]
 
 mod boards;
+mod cell_texts;
 mod commands;
 mod compact;
 mod limits;

@@ -1,6 +1,6 @@
 //! Appends the JSON text of a board directly from the bytes of its record: no board is decoded, and
 //! no JSON value is made.
-ghost use Rattle.std.specs.Prelude.{◌≡◌, ◌++◌, ◌∷◌, ◌≤◌, ◌<◌, ◌-◌, ◌-ℤ◌, All, List, [], None, Some, codes, decimal, flat_map, option_copied, option_map, pos, slice_get};
+ghost use Rattle.std.specs.Prelude.{◌≡◌, ◌++◌, ◌+◌, ◌∷◌, ◌≤◌, ◌<◌, ◌-◌, ◌-ℤ◌, All, List, [], None, Some, codes, decimal, flat_map, length, option_copied, option_map, pos, slice_get};
 ghost use Rattle.serde_json.specs.Data.{boolean, no_items, null, string};
 ghost use Rattle.serde_json.specs.Written.{comma_if, compact_text};
 ghost use Rattle.bs_board.specs.declared.boards.board.Board.{Board as AnyBoard};
@@ -14,6 +14,7 @@ ghost use Rattle.bs_json.specs.inner.BoardText.{back_pieces, board_of, byte_befo
 ghost use Rattle.bs_json.specs.Text.{put};
 
 use crate::boards::{cause_text, mode_text};
+use crate::cell_texts::{SIDE, column_text, row_text, text_len};
 use crate::pieces::{push_bytes, push_small, push_string, push_string_or_null, push_turn};
 use crate::text_buffer::TextBuffer;
 use bs_board::{BoardBytes, Cause, KeptBoard, Mode, SnakeBytes, skip_snakes, split_snake};
@@ -32,47 +33,30 @@ fn push_coordinate(raised: u8, byte: u8, text: &mut TextBuffer)
     }
 }
 
-/// Appends the byte before a cell, and its column. Nearly all columns here have two digits.
-#[tactic(auto, using(crate::proofs::ShownCells::wide_column, crate::proofs::ShownCells::column_pieces))]
-#[inline(always)]
+/// Appends the byte before a cell, and its column.
+#[tactic(auto, using(crate::proofs::ShownCells::column_pieces))]
 fn push_column(lead: u8, raised: u8, x: u8, text: &mut TextBuffer)
     ensures { text.new ≡ put text.old (lead ∷ (codes "{\"x\":" ++ coordinate_text (pos x -ℤ pos raised))) }
 {
-    if raised <= x && 10 <= x - raised && x - raised < 100 {
-        let mut piece = *b",{\"x\":00";
-        piece[0] = lead;
-        piece[6] = b'0' + (x - raised) / 10;
-        piece[7] = b'0' + (x - raised) % 10;
-        text.push(&piece);
-    } else {
-        let mut piece = *b",{\"x\":";
-        piece[0] = lead;
-        text.push(&piece);
-        push_coordinate(raised, x, text);
-    }
+    let mut piece = *b",{\"x\":";
+    piece[0] = lead;
+    text.push(&piece);
+    push_coordinate(raised, x, text);
 }
 
 /// Appends the row of a cell, and its end.
-#[tactic(auto, using(crate::proofs::ShownCells::wide_row, crate::proofs::ShownCells::row_pieces))]
-#[inline(always)]
+#[tactic(auto, using(crate::proofs::ShownCells::row_pieces))]
 fn push_row(raised: u8, y: u8, text: &mut TextBuffer)
     ensures { text.new ≡ put text.old (codes ",\"y\":" ++ (coordinate_text (pos y -ℤ pos raised) ++ codes "}")) }
 {
-    if raised <= y && 10 <= y - raised && y - raised < 100 {
-        let mut piece = *b",\"y\":00}";
-        piece[5] = b'0' + (y - raised) / 10;
-        piece[6] = b'0' + (y - raised) % 10;
-        text.push(&piece);
-    } else {
-        text.push(b",\"y\":");
-        push_coordinate(raised, y, text);
-        text.push(b"}");
-    }
+    text.push(b",\"y\":");
+    push_coordinate(raised, y, text);
+    text.push(b"}");
 }
 
-/// Appends a cell whose column and row may be negative or have several digits.
+/// Appends any cell: one beside the board, or one for which there may be no room.
 #[tactic(auto, using(crate::proofs::ShownCells::cell_pieces))]
-#[inline(always)]
+#[inline(never)]
 fn push_any_cell(lead: u8, raised: u8, x: u8, y: u8, text: &mut TextBuffer)
     ensures { text.new ≡ put text.old (lead ∷ compact_text (cell_data (cell_of raised x y))) }
 {
@@ -80,21 +64,21 @@ fn push_any_cell(lead: u8, raised: u8, x: u8, y: u8, text: &mut TextBuffer)
     push_row(raised, y, text);
 }
 
-/// Appends a cell whose column and row have one digit each.
-#[tactic(auto, using(crate::proofs::ShownCells::small_cell))]
+/// Appends a cell of a board from the texts of its column and its row, each a piece of eight bytes
+/// for which there is room.
 #[inline(always)]
-fn push_small_cell(lead: u8, raised: u8, x: u8, y: u8, text: &mut TextBuffer)
+fn push_near_cell(lead: u8, raised: u8, x: u8, y: u8, text: &mut TextBuffer)
     requires left { raised ≤ x }
     requires below { raised ≤ y }
-    requires column { x - raised < 10 }
-    requires row { y - raised < 10 }
+    requires column { x - raised < 25 }
+    requires row { y - raised < 25 }
+    requires room { length text.old.bytes + 16 ≤ text.old.room }
     ensures { text.new ≡ put text.old (lead ∷ compact_text (cell_data (cell_of raised x y))) }
 {
-    let mut piece = *b",{\"x\":0,\"y\":0}";
-    piece[0] = lead;
-    piece[6] = b'0' + (x - raised);
-    piece[12] = b'0' + (y - raised);
-    text.push(&piece);
+    let column = x - raised;
+    let row = y - raised;
+    text.store_first(&column_text(lead, column), text_len(column));
+    text.store_first(&row_text(row), text_len(row));
 }
 
 /// Appends the cell of these two bytes, which the record stores with `raised` added, behind the
@@ -103,8 +87,8 @@ fn push_small_cell(lead: u8, raised: u8, x: u8, y: u8, text: &mut TextBuffer)
 fn push_cell(lead: u8, raised: u8, x: u8, y: u8, text: &mut TextBuffer)
     ensures { text.new ≡ put text.old (lead ∷ compact_text (cell_data (cell_of raised x y))) }
 {
-    if raised <= x && raised <= y && x - raised < 10 && y - raised < 10 {
-        push_small_cell(lead, raised, x, y, text);
+    if raised <= x && raised <= y && x - raised < SIDE && y - raised < SIDE && 16 <= text.left() {
+        push_near_cell(lead, raised, x, y, text);
     } else {
         push_any_cell(lead, raised, x, y, text);
     }

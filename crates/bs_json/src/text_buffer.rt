@@ -1,5 +1,5 @@
 //! A text buffer of fixed capacity, which is allocated once.
-ghost use Rattle.std.specs.Prelude.{◌≡◌, ◌+◌, ◌<◌, ◌≤◌, ◌^◌, length, IfOk};
+ghost use Rattle.std.specs.Prelude.{◌≡◌, ◌+◌, ◌<◌, ◌≤◌, ◌^◌, length, take, IfOk};
 ghost use Rattle.bs_json.specs.Text.{blank, put};
 
 use std::alloc::{AllocError, Global};
@@ -115,6 +115,18 @@ impl TextBuffer {
         let (front, rest) = piece.split_at(self.left());
         self.store(front);
         self.missing = self.missing.saturating_add(rest.len());
+    }
+
+    /// Appends the first `count` bytes of a piece of eight, where there is room for all eight.
+    #[inline(always)]
+    pub(crate) fn store_first(&mut self, piece: &[u8; 8], count: usize)
+        requires room { length self.old.bytes + 8 ≤ self.old.room }
+        requires within { count ≤ 8 }
+        ensures { self.new ≡ put self.old (take count piece.now) }
+    {
+        let end = self.len + 8;
+        self.bytes[self.len..end].copy_from_slice(piece);
+        self.len += count;
     }
 
     /// Appends a piece; counts the bytes for which there is no room. Allocates nothing.

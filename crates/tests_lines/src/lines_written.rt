@@ -170,6 +170,65 @@ fn a_wide_board_is_written(rt: HostRuntime) -> Result<(), Fail> {
     are_written(alloc, "a", &escaped, WIDE_REPLY_ESCAPED)
 }
 
+// Food in every column and every row of the largest board.
+const EVERYWHERE: [(i16, i16); 25] = [
+    (0, 24),
+    (1, 23),
+    (2, 22),
+    (3, 21),
+    (4, 20),
+    (5, 19),
+    (6, 18),
+    (7, 17),
+    (8, 16),
+    (9, 15),
+    (10, 14),
+    (11, 13),
+    (12, 12),
+    (13, 11),
+    (14, 10),
+    (15, 9),
+    (16, 8),
+    (17, 7),
+    (18, 6),
+    (19, 5),
+    (20, 4),
+    (21, 3),
+    (22, 2),
+    (23, 1),
+    (24, 0),
+];
+
+// Makes a board with that food, a snake that left it on the right, and one that is alive.
+fn largest_board(alloc: Global) -> Result<Board, AllocError> {
+    let mut outside = snake(alloc, "a", 97, &[(25, 9), (24, 9), (24, 10)])?;
+    outside.cause = Some(Cause::WallCollision);
+    outside.out = Some(3);
+    let living = snake(alloc, "b", 97, &[(3, 24), (2, 24), (1, 24)])?;
+    Ok(Board {
+        mode: Mode::Standard,
+        width: 25,
+        height: 25,
+        turn: 3,
+        min_food: 0,
+        chance: 0,
+        food: cells(alloc, &EVERYWHERE)?,
+        hazards: None,
+        snakes: Snakes::from_vec(vec![in alloc; outside, living]?),
+    })
+}
+
+const LARGEST_REPLY: &str =
+    r#"{"board":{"food":[{"x":0,"y":24},{"x":1,"y":23},{"x":2,"y":22},{"x":3,"y":21},{"x":4,"y":20},{"x":5,"y":19},{"x":6,"y":18},{"x":7,"y":17},{"x":8,"y":16},{"x":9,"y":15},{"x":10,"y":14},{"x":11,"y":13},{"x":12,"y":12},{"x":13,"y":11},{"x":14,"y":10},{"x":15,"y":9},{"x":16,"y":8},{"x":17,"y":7},{"x":18,"y":6},{"x":19,"y":5},{"x":20,"y":4},{"x":21,"y":3},{"x":22,"y":2},{"x":23,"y":1},{"x":24,"y":0}],"food_chance":0,"height":25,"min_food":0,"mode":"standard","over":true,"snakes":[{"body":[{"x":25,"y":9},{"x":24,"y":9},{"x":24,"y":10}],"by":null,"cause":"wall-collision","health":97,"id":"a","out":3},{"body":[{"x":3,"y":24},{"x":2,"y":24},{"x":1,"y":24}],"by":null,"cause":null,"health":97,"id":"b","out":null}],"turn":3,"width":25},"charge":99,"do":"move","game":"a","seq":4}
+"#;
+
+#[test]
+fn every_column_and_row_is_written(rt: HostRuntime) -> Result<(), Fail> {
+    let alloc = rt.alloc();
+    let replies = [(4, shown(alloc, Word::Move, &largest_board(alloc)?, 99)?)];
+    are_written(alloc, "a", &replies, LARGEST_REPLY)
+}
+
 // The replies that show no board, of a game whose name needs an escape, then of one whose name
 // needs none.
 const PLAIN_REPLIES: &str = r#"{"charge":0,"do":"end","game":"a\"","seq":3}
