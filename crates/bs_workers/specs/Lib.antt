@@ -1,5 +1,4 @@
 pub mod Acceptable
 pub mod Acts
-pub mod Causes
 pub mod Run
 pub mod inner

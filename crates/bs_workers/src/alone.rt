@@ -10,7 +10,7 @@ ghost use Rattle.bs_sched.specs.Machine.{is_enabled};
 ghost use Rattle.bs_sched.specs.declared.event.Event.TheVariants as event;
 ghost use Rattle.bs_workers.specs.Acceptable.{MayBeMade};
 ghost use Rattle.bs_workers.specs.Acts.{are_acceptable, capacity_of_core, command_in, opened};
-ghost use Rattle.bs_workers.specs.Causes.{IsCause};
+ghost use Rattle.bs_workers.specs.inner.Causes.{IsCause};
 ghost use Rattle.bs_workers.specs.Run.{IsRunOf};
 ghost use Rattle.bs_workers.specs.inner.Apart.{IsPlayed, acts_at};
 ghost use Rattle.bs_workers.specs.inner.Faults.{refused_fault};
