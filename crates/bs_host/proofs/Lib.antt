@@ -27,7 +27,9 @@ pub mod LiveStops
 pub mod LiveTexts
 pub mod OwnLines
 pub mod ParsedLines
+pub mod PlainCourses
 pub mod PlainLines
+pub mod PlainStays
 pub mod RefusedLines
 pub mod RowNames
 pub mod ShortCuts

@@ -5,6 +5,7 @@ pub mod Hosted
 pub mod Laws
 pub mod Live
 pub mod LiveFaults
+pub mod Plain
 pub mod Routing
 pub mod Transcript
 pub mod inner
