@@ -19,12 +19,12 @@ from pathlib import Path
 
 import paths  # noqa: F401
 from arena_client import PROGRAM
-from arena_ladder.config import config_of
-from arena_ladder.game_files import make_folders
-from arena_ladder.pairing import Part
-from arena_ladder.play import Job, play
-from arena_ladder.progress import Counts
-from arena_ladder.store import Store
+from arena_ladder.game.config import config_of
+from arena_ladder.game.game_files import make_folders
+from arena_ladder.game.pairing import Part
+from arena_ladder.results.store import Store
+from arena_ladder.run.play import Job, play
+from arena_ladder.run.progress import Counts
 
 SERVERS = 2
 STEPS = (b"up", b"left", b"down", b"right")

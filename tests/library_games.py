@@ -163,7 +163,7 @@ def draw_hazardous(count, seed):
 
 
 def write(games, path):
-    """Writes the games for bindings/c/replay.c and the example `replay` of the Rust crate."""
+    """Writes the games for tests/c/replay.c and the example `replay` of the Rust crate."""
     with open(path, "wb") as file:
         file.write(struct.pack("<I", len(games)))
         for game in games:

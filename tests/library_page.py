@@ -15,7 +15,6 @@ from typing import Any
 ROOT = Path(__file__).resolve().parent.parent
 PAGE = ROOT / "docs/SIMULATOR.md"
 FENCE = re.compile(r"^```(\w+)\n(.*?)^```$", re.M | re.S)
-SAYS = "It prints:"
 
 
 def ran(*words: Any, **more: Any) -> str:

@@ -60,7 +60,7 @@ class TestGames:
         assert library_games.differences(drawn, program) == []
 
     def test_c(self, drawn, file, tmp_path):
-        replay = compiled(ROOT / "bindings/c/replay.c", tmp_path)
+        replay = compiled(ROOT / "tests/c/replay.c", tmp_path)
         assert ran(replay, file) == said(drawn)
 
     @with_cargo
@@ -151,18 +151,18 @@ class TestMemory:
     """Memory that holds anything, and memory that is refused."""
 
     def test_drawn_contents(self, tmp_path):
-        assert "10000 contents" in ran(compiled(ROOT / "bindings/c/garbage.c", tmp_path))
+        assert "10000 contents" in ran(compiled(ROOT / "tests/c/garbage.c", tmp_path))
 
     def test_each_request_refused(self, tmp_path):
         wraps = "-Wl,--wrap=malloc,--wrap=realloc"
-        assert "refused" in ran(compiled(ROOT / "bindings/c/refused.c", tmp_path, wraps))
+        assert "refused" in ran(compiled(ROOT / "tests/c/refused.c", tmp_path, wraps))
 
 
 class TestAdvance:
     """One step of many environments in one call."""
 
     def test_as_turns_starts_and_planes(self, tmp_path):
-        said = ran(compiled(ROOT / "bindings/c/advance.c", tmp_path), "400")
+        said = ran(compiled(ROOT / "tests/c/advance.c", tmp_path), "400")
         assert said.startswith("800 steps") and said.endswith("turns agree\n")
 
 

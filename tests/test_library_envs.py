@@ -344,7 +344,7 @@ class TestStarts:
     @pytest.fixture
     def ladder(self):
         sys.path.append(str(ROOT / "ladder/src"))
-        from arena_ladder import starts
+        from arena_ladder.game import starts
 
         return starts
 
@@ -368,7 +368,7 @@ class TestStarts:
                         assert cell in {tuple(it) for it in near} and len(near) == 2
 
     def test_each_start_of_the_ladder_is_drawn(self, rules, ladder):
-        from arena_ladder.draws import Draw
+        from arena_ladder.game.draws import Draw
         from arena_rules import starts
 
         heads, food = starts.layouts(np.random.default_rng(2), 11, 11, 2, "standard")

@@ -17,7 +17,7 @@ HAZARD = 6  # the cause, as arena.h has it
 def ladder(library):
     """The map of the ladder: `ladder(games, number)` is the ground of a game."""
     sys.path.append(str(ROOT / "ladder/src"))
-    from arena_ladder.maps import Ground, HazardMap
+    from arena_ladder.game.maps import Ground, HazardMap
 
     def ground(games, number):
         own = games.map
@@ -74,7 +74,7 @@ class TestSettings:
                 rules.Games(1, map=rules.Royale(*values))
 
     def test_sides_are_the_ladders(self, rules, ladder):
-        from arena_ladder.draws import sides_of
+        from arena_ladder.game.draws import sides_of
 
         for game in ("0", "17", "r0001-t003"):
             own = rules.Royale(seed=SEED)

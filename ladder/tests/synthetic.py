@@ -16,14 +16,15 @@ from contextlib import closing
 from pathlib import Path
 
 from arena_client import Cause
-from arena_ladder.config import Bot, config_of
-from arena_ladder.endless import name_of
-from arena_ladder.misses import Miss
-from arena_ladder.outcome import Finish, Outcome, SeatResult, Tally
-from arena_ladder.rated import Drawn, Rated, Result
-from arena_ladder.roster import add_config_bots
-from arena_ladder.store import Store
-from arena_ladder.sums import FROM_ROWS
+from arena_ladder.game.config import config_of
+from arena_ladder.game.outcome import Finish, Outcome, SeatResult, Tally
+from arena_ladder.game.rated import Drawn, Rated, Result
+from arena_ladder.net.bots import Bot
+from arena_ladder.net.misses import Miss
+from arena_ladder.results.roster import add_config_bots
+from arena_ladder.results.store import Store
+from arena_ladder.results.sums import FROM_ROWS
+from arena_ladder.run.endless import name_of
 
 BOTS = ("ant", "bee", "cat", "dog", "eel", "fox")
 LATENCIES = 20

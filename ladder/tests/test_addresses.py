@@ -12,8 +12,8 @@ from typing import Any
 
 import pytest
 
-from arena_ladder import addresses
-from arena_ladder.addresses import AddressBook
+from arena_ladder.net import addresses
+from arena_ladder.net.addresses import AddressBook
 
 KNOWN = {"one.test": ["10.0.0.1", "10.0.0.2"], "two.test": ["10.0.0.3"]}
 
@@ -97,7 +97,7 @@ async def asked_again(server: NameServer, host: str, times: int) -> None:
 def test_end_of_the_program_waits_for_no_name() -> None:
     code = (
         "import asyncio, socket, time\n"
-        "from arena_ladder.addresses import AddressBook\n"
+        "from arena_ladder.net.addresses import AddressBook\n"
         "socket.getaddrinfo = lambda *_, **__: time.sleep(600)\n"
         "async def work():\n"
         "    AddressBook().begin(['a.test', 'b.test'])\n"

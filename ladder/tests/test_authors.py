@@ -14,16 +14,23 @@ import pytest
 from served import LADDER, Served, run_ladder, write_config
 from testing import chromium  # of viewer/
 
-from arena_ladder.bot_log import MOST_BYTES, Asked, add_lines, last_missed, log_files, read_log
-from arena_ladder import kept_answers
-from arena_ladder.config import ConfigFault
-from arena_ladder.game_files import answers_file, make_folders
-from arena_ladder.kept_answers import Heard, KeptAnswers, heard_in
-from arena_ladder.match import bots_of_words
-from arena_ladder.payloads import Look
-from arena_ladder.store import open_store
-from arena_ladder.view import step
-from arena_ladder.viewer_page import viewer_page
+from arena_ladder.commands.match import bots_of_words
+from arena_ladder.commands.view import step
+from arena_ladder.game.config import ConfigFault
+from arena_ladder.game.game_files import answers_file, make_folders
+from arena_ladder.net.bots import Look
+from arena_ladder.page.viewer_page import viewer_page
+from arena_ladder.results import kept_answers
+from arena_ladder.results.bot_log import (
+    MOST_BYTES,
+    Asked,
+    add_lines,
+    last_missed,
+    log_files,
+    read_log,
+)
+from arena_ladder.results.kept_answers import Heard, KeptAnswers, heard_in
+from arena_ladder.results.store import open_store
 
 TURNS = 15
 PLANNED = (4, 13)  # turns in which the faulty bots fail

@@ -15,9 +15,7 @@ from typing import Any
 import pytest
 from test_tls import make_certificate
 
-from arena_ladder.bots import Answer, BotClient, NoLook
-from arena_ladder.config import Bot
-from arena_ladder.payloads import Look
+from arena_ladder.net.bots import Answer, Bot, BotClient, Look, NoLook
 
 TIMEOUT = 2.0
 Serve = Callable[[asyncio.StreamReader, asyncio.StreamWriter], Awaitable[None]]

@@ -25,8 +25,8 @@ from served import (
     write_config,
 )
 
-from arena_ladder.play import NOBODY
-from arena_ladder.program import remembered_program
+from arena_ladder.commands.program import remembered_program
+from arena_ladder.run.play import NOBODY
 
 
 @pytest.fixture(scope="module")

@@ -9,9 +9,15 @@ from typing import Any
 import pytest
 
 from arena_client import PLAN, PLAN_WITH_HAZARDS
-from arena_ladder.config import ConfigFault, Rules, config_again, config_of, read_config
-from arena_ladder.maps import HazardMap
-from arena_ladder.starts import Cell
+from arena_ladder.game.config import (
+    ConfigFault,
+    Rules,
+    config_from_identity,
+    config_of,
+    read_config,
+)
+from arena_ladder.game.maps import HazardMap
+from arena_ladder.game.starts import Cell
 
 BOTS = [{"name": f"bot{at}", "url": f"http://127.0.0.1:80{at:02}/"} for at in range(8)]
 
@@ -105,9 +111,9 @@ def test_identity_is_what_decides_the_games() -> None:
     assert config_of(table(seed=0), "").identity != config.identity
     assert config_of(table(seed=2), "").letters != config.letters == same.letters
     assert config_of(table(timeout=100), "").identity != config.identity
-    assert config_again(config.identity, Path("x"), 3).identity == config.identity
+    assert config_from_identity(config.identity, Path("x"), 3).identity == config.identity
     with pytest.raises(ConfigFault, match="earlier version"):
-        config_again({**config.identity, "order": None}, Path("x"), 3)
+        config_from_identity({**config.identity, "order": None}, Path("x"), 3)
 
 
 def test_maps_with_hazards() -> None:
@@ -123,7 +129,7 @@ def test_maps_with_hazards() -> None:
     for config in (royale, fixed):
         identity = json.loads(json.dumps(config.identity))
         assert identity == config.identity != plain.identity
-        again = config_again(identity, config.folder, config.rounds)
+        again = config_from_identity(identity, config.folder, config.rounds)
         assert again.rules == config.rules
 
 

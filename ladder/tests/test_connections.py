@@ -16,9 +16,9 @@ from typing import Any, AsyncIterator
 
 import pytest
 
-from arena_ladder.addresses import AddressBook
-from arena_ladder.connections import Connections, Exchange
-from arena_ladder.urls import request_of, shown, target_of
+from arena_ladder.net.addresses import AddressBook
+from arena_ladder.net.connections import Connections, Exchange
+from arena_ladder.net.urls import request_of, shown, target_of
 
 SECONDS = 2.0
 GOOD = b"HTTP/1.1 200 OK\r\nContent-Length: 2\r\n\r\n{}"

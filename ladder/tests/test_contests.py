@@ -10,8 +10,8 @@ from pathlib import Path
 import pytest
 from served import Served, complaints, run_ladder
 
-from arena_ladder.outcome import Finish, Outcome, SeatResult
-from arena_ladder.sprt import BOUND, Sprt, expected, log_ratio
+from arena_ladder.game.outcome import Finish, Outcome, SeatResult
+from arena_ladder.results.sprt import BOUND, Sprt, expected, log_ratio
 
 RUNS = 40
 

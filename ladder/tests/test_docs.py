@@ -9,8 +9,8 @@ from pathlib import Path
 
 from served import HERE, Served, free_port, run_ladder
 
-from arena_ladder.config import read_config
-from arena_ladder.misses import Miss
+from arena_ladder.game.config import read_config
+from arena_ladder.net.misses import Miss
 
 ROOT = Path(__file__).resolve().parent.parent.parent
 PAGE = (ROOT / "docs" / "LADDER.md").read_text()
@@ -20,6 +20,12 @@ REFERENCE = (ROOT / "docs" / "LADDER_REFERENCE.md").read_text()
 def test_page_has_each_cause_of_a_missed_move() -> None:
     part = PAGE.split("\n## Missed moves\n")[1].split("\n## ")[0]
     assert re.findall(r"^\| `(\w+)` \|", part, re.MULTILINE) == list(Miss)
+
+
+def test_page_of_the_ladder_shows_each_cause() -> None:
+    text = (ROOT / "ladder/src/arena_ladder/page/static/links.js").read_text()
+    listed = text.split("const causes = [")[1].split("]")[0]
+    assert re.findall(r"'(\w+)'", listed) == list(Miss)
 
 
 def test_simulator_prints_what_the_page_says(program: Path) -> None:

@@ -11,9 +11,9 @@ from typing import Any
 import pytest
 from served import HERE, LADDER, Served, run_ladder, write_config
 
-from arena_ladder.bots import DIRECTIONS
-from arena_ladder.outcome import SeatResult
-from arena_ladder.store import open_store
+from arena_ladder.game.outcome import SeatResult
+from arena_ladder.net.bots import DIRECTIONS
+from arena_ladder.results.store import open_store
 
 BOARD = {"height", "width", "food", "hazards", "snakes"}
 SNAKE = {

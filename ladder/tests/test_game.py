@@ -17,16 +17,16 @@ from aiohttp import web
 from api import Request, strict
 
 from arena_client import Board
-from arena_ladder import game
-from arena_ladder.config import Config, config_of
-from arena_ladder.export import request_body
-from arena_ladder.game_files import GameFiles, LineFile, answers_file, make_folders
-from arena_ladder.kept_answers import kept_file
-from arena_ladder.outcome import Outcome
-from arena_ladder.pairing import Fixture, Part
-from arena_ladder.play import Job, play
-from arena_ladder.store import Store, StoreFault
-from arena_ladder.watch import Watch
+from arena_ladder.game import game
+from arena_ladder.game.config import Config, config_of
+from arena_ladder.game.game_files import GameFiles, LineFile, answers_file, make_folders
+from arena_ladder.game.outcome import Outcome
+from arena_ladder.game.pairing import Fixture, Part
+from arena_ladder.game.watch import Watch
+from arena_ladder.results.export import request_body
+from arena_ladder.results.kept_answers import kept_file
+from arena_ladder.results.store import Store, StoreFault
+from arena_ladder.run.play import Job, play
 
 NAMES = ("left", "right")
 NAME = "r0001-t001"
@@ -237,7 +237,7 @@ def test_lost_answers_are_said(program: Path, tmp_path: Path, harm: str) -> None
 def test_bot_that_was_down_is_asked_for_its_look_again(
     program: Path, tmp_path: Path, monkeypatch: pytest.MonkeyPatch
 ) -> None:
-    monkeypatch.setattr("arena_ladder.play.LOOK_AGAIN_SECONDS", 0.05)
+    monkeypatch.setattr("arena_ladder.run.play.LOOK_AGAIN_SECONDS", 0.05)
 
     class Down(Bots):
         """Bots that say how they look from the tenth request for a move on."""
@@ -277,7 +277,7 @@ def test_line_that_was_written_in_part_is_a_fault(tmp_path: Path) -> None:
     """If the disk is full, the line is not sent; the written part is removed later."""
     code = (
         "import resource, sys; from pathlib import Path\n"
-        "from arena_ladder.game_files import LineFile\n"
+        "from arena_ladder.game.game_files import LineFile\n"
         "resource.setrlimit(resource.RLIMIT_FSIZE, (10, 10))\n"
         "file = LineFile(Path(sys.argv[1])); file.write(b'12345\\n'); file.write(b'12345\\n')\n"
     )

@@ -29,14 +29,14 @@ import hostile
 import pytest
 from served import HERE, START_SECONDS, Served, free_port, serving
 
-from arena_ladder import game
-from arena_ladder.bots import Answer
-from arena_ladder.config import Bot, Config, config_of
-from arena_ladder.game_files import make_folders
-from arena_ladder.page_link import Address, PageLink
-from arena_ladder.pairing import Part
-from arena_ladder.play import Job, play
-from arena_ladder.store import Store
+from arena_ladder.game import game
+from arena_ladder.game.config import Config, config_of
+from arena_ladder.game.game_files import make_folders
+from arena_ladder.game.pairing import Part
+from arena_ladder.net.bots import Answer, Bot
+from arena_ladder.page.page_link import Address, PageLink
+from arena_ladder.results.store import Store
+from arena_ladder.run.play import Job, play
 
 TIMEOUT = 500  # milliseconds
 MARGIN = 30  # before the timeout, within which an honest answer may be late

@@ -26,12 +26,12 @@ from served import (
 from test_kills import wait_for
 
 from arena_client import PLAN_WITH_HAZARDS
-from arena_ladder.config import config_of
-from arena_ladder.game import opening
-from arena_ladder.map_moves import map_members
-from arena_ladder.maps import Ground, HazardMap
-from arena_ladder.pairing import Fixture
-from arena_ladder.starts import Cell
+from arena_ladder.game.config import config_of
+from arena_ladder.game.game import opening
+from arena_ladder.game.map_moves import map_members
+from arena_ladder.game.maps import Ground, HazardMap
+from arena_ladder.game.pairing import Fixture
+from arena_ladder.game.starts import Cell
 
 NAME = "r0001-t001"
 BOTS = [{"name": name, "url": f"http://127.0.0.1:8001/{name}"} for name in SMALL]

@@ -30,7 +30,7 @@ from served import (
     write_config,
 )
 
-from arena_ladder.misses import Miss
+from arena_ladder.net.misses import Miss
 
 SEED = 20261127
 LONGEST = 600  # seconds of a run

@@ -7,7 +7,7 @@ from pathlib import Path
 import faulty
 from served import Served, complaints, run_ladder, start_play, write_config
 
-from arena_ladder.store import open_store
+from arena_ladder.results.store import open_store
 
 GAMES = 64
 TIMEOUT = 4000  # milliseconds: long, since the bots' process may wait for a processor

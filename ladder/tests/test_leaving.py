@@ -20,27 +20,27 @@ from served import board_with
 from test_connections import GOOD, Server, ask, run, served
 
 from arena_client import BLOCKS_OF_GAME, PROGRAM
-from arena_ladder import addresses, connections
-from arena_ladder.addresses import AddressBook
-from arena_ladder.bots import Answer, BotClient
-from arena_ladder.config import config_of
-from arena_ladder.connections import Connections, Exchange
-from arena_ladder.endless import Endless
-from arena_ladder.game import RunContext
-from arena_ladder.game_files import make_folders
-from arena_ladder.keeper import HostKeeper
-from arena_ladder.kept_answers import KeptAnswers
-from arena_ladder.outcome import Finish, Outcome, SeatResult, Tally
-from arena_ladder.pairing import Fixture
-from arena_ladder.play import Run
-from arena_ladder.progress import MOST_MS, Counts
-from arena_ladder.rated import Change
-from arena_ladder.roster import add_config_bots, mark, replace
-from arena_ladder.store import Store
-from arena_ladder.times import Times
-from arena_ladder.transcripts import Transcripts
-from arena_ladder.urls import request_of, target_of
-from arena_ladder.watch import Watches
+from arena_ladder.game.config import config_of
+from arena_ladder.game.game import RunContext
+from arena_ladder.game.game_files import make_folders
+from arena_ladder.game.outcome import Finish, Outcome, SeatResult, Tally
+from arena_ladder.game.pairing import Fixture
+from arena_ladder.game.rated import Change
+from arena_ladder.game.watch import Watches
+from arena_ladder.net import addresses, connections
+from arena_ladder.net.addresses import AddressBook
+from arena_ladder.net.bots import Answer, BotClient
+from arena_ladder.net.connections import Connections, Exchange
+from arena_ladder.net.urls import request_of, target_of
+from arena_ladder.results.kept_answers import KeptAnswers
+from arena_ladder.results.roster import add_config_bots, mark, replace
+from arena_ladder.results.store import Store
+from arena_ladder.results.transcripts import Transcripts
+from arena_ladder.run.endless import Endless
+from arena_ladder.run.keeper import HostKeeper
+from arena_ladder.run.play import Run
+from arena_ladder.run.progress import MOST_MS, Counts
+from arena_ladder.run.times import Times
 
 SECONDS = 5.0
 REPLACES = 12
@@ -246,7 +246,7 @@ def test_ended_games_leave_no_bots_in_the_counts() -> None:
 
 def test_few_bytes_of_transcripts_are_kept(tmp_path: Path, monkeypatch: pytest.MonkeyPatch) -> None:
     """One alone may be longer."""
-    monkeypatch.setattr("arena_ladder.transcripts.MOST_KEPT", 1000)
+    monkeypatch.setattr("arena_ladder.results.transcripts.MOST_KEPT", 1000)
     made = Transcripts(tmp_path, PROGRAM)
     for at, size in enumerate((400, 400, 400, 5000)):
         made.keep(f"r{at}", b"x" * size)

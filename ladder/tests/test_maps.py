@@ -12,19 +12,19 @@ from typing import Any
 import pytest
 from served import SMALL, Served, files_of, write_config
 
-from arena_ladder.check import check
-from arena_ladder.config import ConfigFault, config_of, read_config
-from arena_ladder.game import opening
-from arena_ladder.game_files import command_file, make_folders
-from arena_ladder.map_moves import food_after, map_members
-from arena_ladder.official import MAPS, Terrain
-from arena_ladder.official.arcade_maze import MAZE
-from arena_ladder.official.snail_mode import MOST_LAYERS, fitting, next_head
-from arena_ladder.pairing import Fixture, Part
-from arena_ladder.payloads import game_text
-from arena_ladder.play import Job, play
-from arena_ladder.starts import Cell
-from arena_ladder.store import Store
+from arena_ladder.game.config import ConfigFault, config_of, read_config
+from arena_ladder.game.game import opening
+from arena_ladder.game.game_files import command_file, make_folders
+from arena_ladder.game.map_moves import food_after, map_members
+from arena_ladder.game.official import MAPS, Terrain
+from arena_ladder.game.official.arcade_maze import MAZE
+from arena_ladder.game.official.snail_mode import MOST_LAYERS, fitting, next_head
+from arena_ladder.game.pairing import Fixture, Part
+from arena_ladder.game.payloads import game_text
+from arena_ladder.game.starts import Cell
+from arena_ladder.results.store import Store
+from arena_ladder.run.check import check
+from arena_ladder.run.play import Job, play
 
 NAME = "r0001-t001"
 FOUR = ("a", "b", "c", "d")

@@ -12,17 +12,17 @@ from typing import Any
 import pytest
 from served import run_ladder
 
-from arena_ladder.about import about_of, write_about
-from arena_ladder.config import ConfigFault, config_of
-from arena_ladder.days import MOST_DAYS, with_days
-from arena_ladder.game_files import make_folders
-from arena_ladder.marks import FEW_GAMES
-from arena_ladder.outcome import Finish, Outcome, SeatResult, Tally
-from arena_ladder.pairing import Part
-from arena_ladder.play import Job, play
-from arena_ladder.roster import add, add_config_bots, mark, replace
-from arena_ladder.store import Store
-from arena_ladder.watch import Watch
+from arena_ladder.game.config import ConfigFault, config_of
+from arena_ladder.game.game_files import make_folders
+from arena_ladder.game.outcome import Finish, Outcome, SeatResult, Tally
+from arena_ladder.game.pairing import Part
+from arena_ladder.game.watch import Watch
+from arena_ladder.page.days import MOST_DAYS, with_days
+from arena_ladder.results.about import about_of, write_about
+from arena_ladder.results.marks import FEW_GAMES
+from arena_ladder.results.roster import add, add_config_bots, mark, replace
+from arena_ladder.results.store import Store
+from arena_ladder.run.play import Job, play
 
 BOTS = [{"name": name, "url": "http://127.0.0.1:1"} for name in ("a", "b", "c", "d")]
 

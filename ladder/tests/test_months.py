@@ -3,7 +3,6 @@
 from __future__ import annotations
 
 import json
-import shutil
 import sqlite3
 import time
 import zipfile
@@ -15,19 +14,19 @@ from typing import Any
 import pytest
 from served import Served, run_ladder, start_play, write_config
 
-from arena_ladder import packs
-from arena_ladder.about import about_of
-from arena_ladder.config import ENDLESS
-from arena_ladder.days import with_days
-from arena_ladder.endless import name_of, number_of
-from arena_ladder.game_files import command_file
-from arena_ladder.kept_answers import heard_in
-from arena_ladder.pairing import GAME_NAME
-from arena_ladder.page_calls import season_rows
-from arena_ladder.packs import commands_of, pack_games
-from arena_ladder.roster import change_roster
-from arena_ladder.seasons import season_day
-from arena_ladder.store import open_store
+from arena_ladder.game.config import ENDLESS
+from arena_ladder.game.game_files import command_file
+from arena_ladder.game.pairing import GAME_NAME
+from arena_ladder.page.days import with_days
+from arena_ladder.page.page_calls import season_rows
+from arena_ladder.results import packs
+from arena_ladder.results.about import about_of
+from arena_ladder.results.kept_answers import heard_in
+from arena_ladder.results.packs import commands_of, pack_games
+from arena_ladder.results.roster import change_roster
+from arena_ladder.results.seasons import season_day
+from arena_ladder.results.store import open_store
+from arena_ladder.run.endless import name_of, number_of
 
 KEPT = Path(__file__).resolve().parent / "kept"
 NAMES = ("fleer", "hungry", "lazy", "seeker")
@@ -35,12 +34,15 @@ SECONDS = 240
 
 
 def kept_folder(version: str, to: Path) -> Path:
-    """A folder as a released version left it: its database from its text, and its games."""
-    shutil.copytree(KEPT / version, to)
+    """A folder as a released version left it: its database from its text, and its games, each
+    behind a line with its name."""
+    for name in ("games", "running"):
+        (to / name).mkdir(parents=True)
     with closing(sqlite3.connect(to / "results.sqlite")) as base:
-        base.executescript((to / "results.sql").read_text())
-    (to / "results.sql").unlink()
-    (to / "running").mkdir(exist_ok=True)
+        base.executescript((KEPT / f"{version}.sql").read_text())
+    for game in (KEPT / f"{version}.games").read_text().split("== ")[1:]:
+        name, _, lines = game.partition("\n")
+        (to / f"games/{name}.jsonl").write_text(lines)
     return to
 
 

@@ -16,8 +16,8 @@ from typing import Any
 import pytest
 from served import run_ladder, write_config
 
-from arena_ladder import addresses
-from arena_ladder.bots import Answer, BotClient
+from arena_ladder.net import addresses
+from arena_ladder.net.bots import Answer, BotClient
 
 TIMEOUT = 0.5
 TURNS = 150

@@ -1,8 +1,10 @@
-"""Tests of `pip install ./ladder`: the command, its pages, and the viewer."""
+"""Tests of the package: its map of modules, and `pip install ./ladder` with the command, its pages,
+and the viewer."""
 
 from __future__ import annotations
 
 import os
+import re
 import shutil
 import subprocess
 import sys
@@ -11,8 +13,35 @@ from pathlib import Path
 import pytest
 from served import HERE, Served, run_ladder
 
+import arena_ladder
+
 ROOT = HERE.parent.parent
+SOURCES = ROOT / "ladder/src/arena_ladder"
 OPTIONS = ("--quiet", "--no-build-isolation", "--no-index", "--no-deps")
+
+
+def mapped() -> dict[str, str]:
+    """What the map of the modules says of each package, in its order."""
+    words = re.split(r"^    (\w+)/ ", arena_ladder.__doc__ or "", flags=re.MULTILINE)
+    texts = (it.split("\n\n")[0] for it in words[2::2])
+    return dict(zip(words[1::2], texts, strict=True))
+
+
+def test_map_has_each_module() -> None:
+    packages = {it.parent.name for it in SOURCES.glob("*/__init__.py")}
+    assert packages == set(mapped())
+    for package, text in mapped().items():
+        named = set(re.findall(r"\w+", text))
+        modules = {it.stem for it in (SOURCES / package).glob("[a-z]*.py")}
+        assert modules - named == {it for it in modules if it.endswith("_commands")}, package
+
+
+def test_packages_import_only_those_before_them() -> None:
+    order = list(mapped())
+    for at, package in enumerate(order):
+        for file in (SOURCES / package).rglob("*.py"):
+            found = set(re.findall(r"(?:from|import) arena_ladder\.(\w+)", file.read_text()))
+            assert found <= {*order[: at + 1], "texts", "heap"}, file
 
 
 @pytest.fixture(scope="module")
@@ -46,7 +75,8 @@ def test_command_has_its_name(installed: Path) -> None:
 
 def test_package_has_the_files_of_its_page(installed: Path) -> None:
     code = (
-        "from arena_ladder.page_calls import files_of_page as it; print(*it().values(), sep='\\n')"
+        "from arena_ladder.page.page_calls import files_of_page as it\n"
+        "print(*it().values(), sep='\\n')"
     )
     files = [Path(line) for line in run_installed(installed, "-c", code).splitlines()]
     assert len(files) > 20 and all(installed in it.parents and it.is_file() for it in files)

@@ -22,18 +22,16 @@ from served import Served, board_with, first_line, run_ladder, start_play, write
 from testing import chromium  # of viewer/
 
 from arena_client import PROGRAM
-from arena_ladder import page as page_module
-from arena_ladder import page_link
-from arena_ladder.bots import Answer
-from arena_ladder.config import Bot
-from arena_ladder.feed import MOST_READERS, MOST_WAITING, Feed, Reader
-from arena_ladder.news import News, duration
-from arena_ladder.outcome import Finish, Outcome, SeatResult
-from arena_ladder.page import MOST_CONNECTIONS, page
-from arena_ladder.page_calls import Calls
-from arena_ladder.page_link import Address, PageFault, PageLink, address_of
-from arena_ladder.pairing import Fixture
-from arena_ladder.store import Store
+from arena_ladder.game.outcome import Finish, Outcome, SeatResult
+from arena_ladder.game.pairing import Fixture
+from arena_ladder.net.bots import Answer, Bot
+from arena_ladder.page import page as page_module, page_link
+from arena_ladder.page.feed import MOST_READERS, MOST_WAITING, Feed, Reader
+from arena_ladder.page.news import News, duration
+from arena_ladder.page.page import MOST_CONNECTIONS, page
+from arena_ladder.page.page_calls import Calls
+from arena_ladder.page.page_link import Address, PageFault, PageLink, address_of
+from arena_ladder.results.store import Store
 
 GAME = Fixture("r0001-t001", 1, ("a", "b"))
 WATCH = """

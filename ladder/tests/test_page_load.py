@@ -16,11 +16,11 @@ from served import HERE, first_line
 from synthetic import fill_quickly
 
 from arena_client import PROGRAM
-from arena_ladder import page as page_module
-from arena_ladder.feed import Feed
-from arena_ladder.page import page
-from arena_ladder.page_calls import Calls
-from arena_ladder.page_link import Address
+from arena_ladder.page import page as page_module
+from arena_ladder.page.feed import Feed
+from arena_ladder.page.page import page
+from arena_ladder.page.page_calls import Calls
+from arena_ladder.page.page_link import Address
 
 SECONDS = 1.5  # of an answer
 BAD = 200  # requests
@@ -62,8 +62,9 @@ def test_answer_may_take_longer_than_a_silent_connection(monkeypatch: pytest.Mon
 SERVE = """
 import asyncio, sys, time
 from pathlib import Path
-from arena_ladder import page, results_page
-from arena_ladder.page_link import Address
+from arena_ladder.commands import results_page
+from arena_ladder.page import page
+from arena_ladder.page.page_link import Address
 results_of = page.results_of
 def slow(folder):
     time.sleep(SECONDS)

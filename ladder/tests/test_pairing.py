@@ -10,10 +10,10 @@ from typing import Any
 
 import pytest
 
-from arena_ladder.config import Config, config_of
-from arena_ladder.draws import Draw, words_of
-from arena_ladder.pairing import GAME_NAME, Fixture, Part, circle, fixtures_of, orbits, part_of
-from arena_ladder.starts import Cell, first_food, start_cells
+from arena_ladder.game.config import Config, config_of
+from arena_ladder.game.draws import Draw, words_of
+from arena_ladder.game.pairing import GAME_NAME, Fixture, Part, circle, fixtures_of, orbits, part_of
+from arena_ladder.game.starts import Cell, first_food, start_cells
 
 NAMES = [f"bot{at}" for at in range(7)]
 

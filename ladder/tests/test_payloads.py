@@ -8,8 +8,9 @@ from typing import Any
 import pytest
 from api import NotOfApi, Request, strict
 
-from arena_ladder.config import config_of
-from arena_ladder.payloads import Look, Seat, bodies, game_text, seats_of
+from arena_ladder.game.config import config_of
+from arena_ladder.game.payloads import Seat, bodies, game_text, seats_of
+from arena_ladder.net.bots import Look
 
 BOARD: Any = {
     "food": [{"x": 5, "y": 5}],

@@ -7,8 +7,8 @@ import json
 import time
 from typing import Any
 
-from arena_ladder.bots import Answer, BotClient
-from arena_ladder.pulse import Pulse
+from arena_ladder.net.bots import Answer, BotClient
+from arena_ladder.net.pulse import Pulse
 
 TIMEOUT = 0.5
 

@@ -7,8 +7,8 @@ import time
 
 import pytest
 
-from arena_ladder.misses import BadAnswer
-from arena_ladder.response import MOST_BYTES, MOST_HEAD, MOST_PIECES, Response
+from arena_ladder.net.misses import BadAnswer
+from arena_ladder.net.response import MOST_BYTES, MOST_HEAD, MOST_PIECES, Response
 
 OK = b"HTTP/1.1 200 OK\r\n"
 CHUNKED = OK + b"Transfer-Encoding: chunked\r\n\r\n"

@@ -8,9 +8,9 @@ from pathlib import Path
 import pytest
 from synthetic import fill_quickly
 
-from arena_ladder.endless import SNAPSHOT_GAMES, name_of, replay, restore
-from arena_ladder.rated import Rated
-from arena_ladder.store import Store, open_store
+from arena_ladder.game.rated import Rated
+from arena_ladder.results.store import Store, open_store
+from arena_ladder.run.endless import SNAPSHOT_GAMES, name_of, replay, restore
 
 GAMES = SNAPSHOT_GAMES + 30
 

@@ -19,12 +19,12 @@ import pytest
 from served import LADDER, Served, first_line, free_port, run_ladder, start_play, write_config
 from testing import chromium  # of viewer/
 
-from arena_ladder import transcripts
-from arena_ladder.colours import COLOURS, GROUNDS, is_apart, looks_of, oklab
-from arena_ladder.history import games_of, record_of
-from arena_ladder.page_calls import rows_of
-from arena_ladder.store import open_store
-from arena_ladder.transcripts import NoTranscript, Transcripts
+from arena_ladder.page.colours import COLOURS, GROUNDS, is_apart, looks_of, oklab
+from arena_ladder.page.page_calls import rows_of
+from arena_ladder.results import transcripts
+from arena_ladder.results.history import games_of, record_of
+from arena_ladder.results.store import open_store
+from arena_ladder.results.transcripts import NoTranscript, Transcripts
 
 BOTS = ("fleer", "hungry", "lazy")
 WIDE, NARROW = (1280, 900), (390, 844)

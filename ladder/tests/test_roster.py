@@ -17,11 +17,11 @@ from pathlib import Path
 import pytest
 from served import BUSY, SMALL, Served, complaints, run_ladder, start_play, write_config
 
-from arena_ladder.config import Bot
-from arena_ladder.rated import START, Change, Drawn, Player, Rated, Result, gains_of
-from arena_ladder.rating import ratings
-from arena_ladder.roster import add, add_config_bots, mark, replace, urls_of
-from arena_ladder.store import Store, open_store
+from arena_ladder.game.rated import START, Change, Drawn, Player, Rated, Result, gains_of
+from arena_ladder.net.bots import Bot
+from arena_ladder.results.rating import ratings
+from arena_ladder.results.roster import add, add_config_bots, mark, replace, urls_of
+from arena_ladder.results.store import Store, open_store
 
 NAMES = [f"bot{at}" for at in range(8)]
 SEEDS = 20

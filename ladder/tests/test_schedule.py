@@ -10,14 +10,14 @@ from typing import Any
 import pytest
 from served import board_with
 
-from arena_ladder import schedule
-from arena_ladder.bots import Answer
-from arena_ladder.config import config_of
-from arena_ladder.outcome import Finish, Outcome, SeatResult
-from arena_ladder.pairing import Fixture, fixtures_of
-from arena_ladder.progress import Counts
-from arena_ladder.pulse import Pulse
-from arena_ladder.schedule import Pace, Schedule
+from arena_ladder.game.config import config_of
+from arena_ladder.game.outcome import Finish, Outcome, SeatResult
+from arena_ladder.game.pairing import Fixture, fixtures_of
+from arena_ladder.net.bots import Answer
+from arena_ladder.net.pulse import Pulse
+from arena_ladder.run import schedule
+from arena_ladder.run.progress import Counts
+from arena_ladder.run.schedule import Pace, Schedule
 
 
 def fixtures(bots: int, **members: Any) -> list[Fixture]:

@@ -11,10 +11,10 @@ from pathlib import Path
 import pytest
 from served import SMALL, Served, run_ladder, write_config
 
-from arena_ladder.backup import copy_kept
-from arena_ladder.config import config_of
-from arena_ladder.seeds import draw_seed, with_seed
-from arena_ladder.store import StoreFault
+from arena_ladder.game.config import config_of
+from arena_ladder.results.backup import copy_kept
+from arena_ladder.results.seeds import draw_seed, with_seed
+from arena_ladder.results.store import StoreFault
 
 BOTS = [{"name": name, "url": "http://127.0.0.1:1"} for name in SMALL]
 

@@ -17,14 +17,14 @@ import pytest
 from served import board_with
 
 from arena_client import Cause
-from arena_ladder.config import Bot
-from arena_ladder.merge import merge
-from arena_ladder.misses import Miss
-from arena_ladder.outcome import Finish, Outcome, SeatResult, Tally, finishes_of
-from arena_ladder.quantiles import quantile
-from arena_ladder.rating import ratings
-from arena_ladder.standings import as_csv, as_json, cells_of, standings_of
-from arena_ladder.store import Store, StoreFault, open_store
+from arena_ladder.game.outcome import Finish, Outcome, SeatResult, Tally, finishes_of
+from arena_ladder.net.bots import Bot
+from arena_ladder.net.misses import Miss
+from arena_ladder.results.merge import merge
+from arena_ladder.results.quantiles import quantile
+from arena_ladder.results.rating import ratings
+from arena_ladder.results.standings import as_csv, as_json, cells_of, standings_of
+from arena_ladder.results.store import Store, StoreFault, open_store
 
 IDENTITY = {"seed": 1, "bots": ["a", "b", "c"]}
 BOTS = [Bot(name, f"http://127.0.0.1:1/{name}") for name in "abc"]

@@ -10,11 +10,11 @@ from pathlib import Path
 import pytest
 from served import Served, complaints, run_ladder, write_config
 
-from arena_ladder.bots import BotClient
-from arena_ladder.config import ConfigFault, config_of
-from arena_ladder.networks import Networks
-from arena_ladder.roster import add, keep_networks, replace
-from arena_ladder.store import Store, StoreFault
+from arena_ladder.game.config import ConfigFault, config_of
+from arena_ladder.net.bots import BotClient
+from arena_ladder.net.networks import Networks
+from arena_ladder.results.roster import add, keep_networks, replace
+from arena_ladder.results.store import Store, StoreFault
 
 PUBLIC = ("93.184.216.34", "8.8.8.8", "2606:2800:220:1::1")
 PRIVATE = (

@@ -12,15 +12,14 @@ from pathlib import Path
 import pytest
 from synthetic import BOTS, drawn_games, fill_quickly
 
-from arena_ladder import history
-from arena_ladder import sums as sums_of_games
-from arena_ladder.config import Bot
-from arena_ladder.history import OverTime, games_of, record_of
-from arena_ladder.outcome import Outcome
-from arena_ladder.rating import Comparisons, Rating, ratings, ratings_from
-from arena_ladder.standings import standings_of
-from arena_ladder.store import Store, open_store
-from arena_ladder.sums import FROM_ROWS
+from arena_ladder.game.outcome import Outcome
+from arena_ladder.net.bots import Bot
+from arena_ladder.results import history, sums as sums_of_games
+from arena_ladder.results.history import OverTime, games_of, record_of
+from arena_ladder.results.rating import Comparisons, Rating, ratings, ratings_from
+from arena_ladder.results.standings import standings_of
+from arena_ladder.results.store import Store, open_store
+from arena_ladder.results.sums import FROM_ROWS
 
 GAMES = 300
 

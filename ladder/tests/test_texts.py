@@ -9,17 +9,17 @@ import json
 import pytest
 from rich.console import Console
 
-from arena_ladder.standings import Standing, as_csv, as_table
-from arena_ladder.texts import cell_text, counted, fit_text
+from arena_ladder.results.standings import Standing, as_csv, as_table
+from arena_ladder.texts import cell_text, counted, printable
 
 HARMFUL = "a\x1b[2J\x9b1m\r\n\x00\ud800b[red]\u2028c"
 
 
 def test_texts_are_fit_for_strict_readers_and_terminals() -> None:
-    assert fit_text(HARMFUL) == "a[2J1m?b[red]c"
-    assert fit_text("Grüße, \U0001f40d \u200d é") == "Grüße, \U0001f40d \u200d é"
+    assert printable(HARMFUL) == "a[2J1m?b[red]c"
+    assert printable("Grüße, \U0001f40d \u200d é") == "Grüße, \U0001f40d \u200d é"
     every = "".join(map(chr, range(0x11000)))
-    fit = fit_text(every)
+    fit = printable(every)
     assert json.loads(json.dumps(fit).encode()) == fit == fit.encode().decode()
     assert not any(ord(it) < 32 or 127 <= ord(it) < 160 for it in fit)
 

@@ -13,10 +13,10 @@ from pathlib import Path
 import pytest
 from served import HERE, Served, free_port, serving
 
-from arena_ladder.addresses import AddressBook
-from arena_ladder.bots import Answer, BotClient
-from arena_ladder.connections import Connections, Exchange
-from arena_ladder.urls import request_of, target_of
+from arena_ladder.net.addresses import AddressBook
+from arena_ladder.net.bots import Answer, BotClient
+from arena_ladder.net.connections import Connections, Exchange
+from arena_ladder.net.urls import request_of, target_of
 
 TURNS = 6
 BOTS = 4  # that flood at the same time

@@ -14,17 +14,18 @@ from typing import Any
 import pytest
 from served import SMALL, Served, complaints, run_ladder, write_config
 
-from arena_ladder.check import check
-from arena_ladder.config import Config, ConfigFault, config_of, read_config
-from arena_ladder.game_files import make_folders
-from arena_ladder.groups import groups_of
-from arena_ladder.matches import BYE
-from arena_ladder.pairing import Part
-from arena_ladder.play import Job, play
-from arena_ladder.rated import Result
-from arena_ladder.store import Store, open_store
-from arena_ladder.tournament import Tournament
-from arena_ladder.tournament_commands import bracket_lines, tournament_of
+from arena_ladder.commands.tournament_commands import bracket_lines
+from arena_ladder.game.config import Config, ConfigFault, config_of, read_config
+from arena_ladder.game.game_files import make_folders
+from arena_ladder.game.groups import groups_of
+from arena_ladder.game.matches import BYE
+from arena_ladder.game.pairing import Part
+from arena_ladder.game.rated import Result
+from arena_ladder.game.tournament import Tournament
+from arena_ladder.results.store import Store, open_store
+from arena_ladder.run.check import check
+from arena_ladder.run.play import Job, play
+from arena_ladder.run.tournament_play import tournament_of
 
 KINDS = ("single_elimination", "double_elimination", "groups", "swiss")
 COUNTS = (2, 3, 4, 5, 6, 7, 8, 9, 11, 16, 17, 33)

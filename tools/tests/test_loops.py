@@ -68,6 +68,7 @@ def test_loops_with_a_bound(root: Path) -> None:
         "for _ in 1..=usize::MAX - 1",
         "for _ in rt.forever()",
         "loop",
+        "'words: loop",
         "for _ in 0..20_000_000",
         "for turn in 0..LONG",
         "while turn < LONG",
@@ -99,6 +100,19 @@ def test_a_measure_that_is_too_large(root: Path) -> None:
     assert (status, lines[-1]) == (1, "5 loops, 1 allowed, 1 refused")
     (folder / "Invariants.antt").write_text(text.replace("64", "24"))
     assert loops(root)[0] == 0
+
+
+def test_a_loop_with_a_measure(root: Path) -> None:
+    folder = root / "crates/bs_host/proofs/count"
+    folder.mkdir(parents=True)
+    proof = "abbrev pub decreases-words : goal.decreases-words\ndecreases-words l = l.words\n"
+    (folder / "Invariants.antt").write_text(proof)
+    source = root / "crates/bs_host/src/count.rt"
+    source.write_text("fn count() {\n    'words: loop {\n        go();\n    }\n}\n")
+    assert loops(root)[0] == 0
+    source.write_text("fn count() {\n    'letters: loop {\n        go();\n    }\n}\n")
+    status, lines = loops(root)
+    assert (status, lines[0].endswith("'letters: loop -- has no measure")) == (1, True)
 
 
 def test_an_allowed_loop_that_is_gone(root: Path) -> None:

@@ -124,3 +124,10 @@ def test_finds_an_edit_without_a_twin(crate: Path) -> None:
     (crate / "proofs/add").mkdir(parents=True)
     (crate / "proofs/add/Answers.antt").write_text("")
     assert wrong(crate, "missing") == (1, "1 of 3 edits want a twin")
+
+
+def test_lists_the_edits_of_a_function(crate: Path) -> None:
+    (crate / "edits.txt").write_text(WELL)
+    status, line = wrong(crate, "list")
+    where = "crates/bs_sum/must-fail/subtracts.edit:1"
+    assert (status, line) == (0, f"bs_sum/src/lib.rt add: subtracts (with a twin), {where}")

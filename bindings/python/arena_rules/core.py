@@ -270,10 +270,6 @@ class Core:
         of each snake; on a map the hazards."""
         return 1 + (3 if scalars else 1) * self.seats + (self.games.map is not None)
 
-    def seat_view(self, name: str) -> NDArray[Any]:
-        """A number of each seat, as it was looked at: a view (count, seats)."""
-        return self._seats[name]
-
     def seat_numbers(self, name: str) -> NDArray[Any]:
         """A number of each seat, as it was looked at: a copy (count, seats)."""
         return self._seats[name].copy()

@@ -4,7 +4,7 @@ use Rattle.clap.specs.Words.{HasKind, kind_of}
 use Rattle.clap.specs.declared.error.Error.{Error}
 use Rattle.clap.specs.declared.error.ErrorKind.{ErrorKind}
 use Rattle.clap.specs.declared.error.ErrorKind.TheVariants as clap
-use Rattle.bs_program.specs.Outcome.{Answer, Concludes, Does, Named, Reports}
+use Rattle.bs_program.specs.Outcome.{Answer, Concludes, Does, Named, Reports, Unread}
 use Rattle.bs_program.specs.Streams.{has_bytes, has_failed, is_flushed}
 use Rattle.bs_program.specs.declared.reason.Reason.TheVariants.{OutOfMemory, FlushFailed}
 use Rattle.bs_program.specs.declared.stream.Output.{Output}
@@ -21,11 +21,11 @@ pub record Explains {W E : Type 0} (contents : E → Option (List ℕ)) (kind : 
   pub refused : kind ≢ clap.OutOfMemory → kind ≢ clap.DisplayHelp → kind ≢ clap.DisplayVersion → (status ≡ 2) × (after ≡ output)
 
 -- The words, the first of which is the program's own name, were accepted, and their request is
--- done; `failed` says that a call of the reader failed.
-pub record IsDone {W E : Type 0} (contents : W → Option (List ℕ)) (told : E → Option (List ℕ)) (failed : Type 0) (left : Option (List ℕ)) (named : Named) (words : List (List ℕ)) (status : ℕ) (output after : Output W) (old new : Output E) : Type 0 where
+-- done; `failed` says that a call of the reader failed, and `unread` that one of a named file did.
+pub record IsDone {W E : Type 0} (contents : W → Option (List ℕ)) (told : E → Option (List ℕ)) (failed : Type 0) (unread : Unread) (left : Option (List ℕ)) (named : Named) (words : List (List ℕ)) (status : ℕ) (output after : Output W) (old new : Output E) : Type 0 where
   pub answer : Answer
   pub taken : 2 ≤ length words → mistakes_in words ≡ []
-  pub done : Does contents failed left named (asked_of words) output after answer
+  pub done : Does contents failed unread left named (asked_of words) output after answer
   pub concluded : Concludes told answer status old new
 
 -- The words were not accepted.

@@ -14,7 +14,6 @@ use program::{arena_run, unread_words};
 use std::alloc::{AllocError, Global};
 use std::io::{Read, Write};
 use std::process::ExitCode;
-use std::sync::Wait;
 use std::thread::Threads;
 use std::{env, io};
 
@@ -31,7 +30,7 @@ fn texts_of(alloc: Global, words: &[String]) -> Result<Vec<&str>, AllocError>
 }
 
 /// Runs the program on these words, and returns its exit status.
-fn status_on<H: Sources + Threads + Wait + Sync, R: Read, W: Write, E: Write>(
+fn status_on<H: Sources + Threads + Sync, R: Read, W: Write, E: Write>(
     rt: &H,
     alloc: Global,
     words: &[String],
@@ -39,7 +38,7 @@ fn status_on<H: Sources + Threads + Wait + Sync, R: Read, W: Write, E: Write>(
     output: &mut Output<W>,
     errors: &mut Output<E>,
 ) -> Result<u8, AllocError>
-    ensures status { IfOk result (λ status. IsDone W.contents E.contents (HasReadFailed input.new) (left_in R.remaining input.old) (H.named rt.now) (map (λ word. string_bytes word) words.now) status output.old output.new errors.old errors.new
+    ensures status { IfOk result (λ status. IsDone W.contents E.contents (HasReadFailed input.new) (H.unread rt.now) (left_in R.remaining input.old) (H.named rt.now) (map (λ word. string_bytes word) words.now) status output.old output.new errors.old errors.new
         ⊎ IsRefused E.contents (map (λ word. string_bytes word) words.now) status output.old output.new errors.old errors.new) }
     ensures output { OnErr result (output.new ≡ output.old) }
     ensures errors { OnErr result (errors.new ≡ errors.old) }

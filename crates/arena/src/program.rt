@@ -12,7 +12,6 @@ use bs_program::{Input, Output, Reason, Sources, concluded, reported, run_reques
 use clap::error::ErrorKind;
 use std::alloc::Global;
 use std::io::{self, Read, Write};
-use std::sync::Wait;
 use std::thread::Threads;
 
 /// The status of a command line that `clap` refuses.
@@ -56,7 +55,7 @@ fn explained<W: Write, E: Write>(
 /// Runs the program on these words, the first of which is its own name, and returns its exit
 /// status. The transcript goes to `output`, which is flushed at the end; a fault is one line on
 /// `errors`.
-pub fn arena_run<H: Sources + Threads + Wait + Sync, R: Read, W: Write, E: Write>(
+pub fn arena_run<H: Sources + Threads + Sync, R: Read, W: Write, E: Write>(
     rt: &H,
     alloc: Global,
     words: &[&str],
@@ -64,7 +63,7 @@ pub fn arena_run<H: Sources + Threads + Wait + Sync, R: Read, W: Write, E: Write
     output: &mut Output<W>,
     errors: &mut Output<E>,
 ) -> u8
-    ensures { IsDone W.contents E.contents (HasReadFailed input.new) (left_in R.remaining input.old) (H.named rt.now) (map (λ word. word.now) words.now) result output.old output.new errors.old errors.new
+    ensures { IsDone W.contents E.contents (HasReadFailed input.new) (H.unread rt.now) (left_in R.remaining input.old) (H.named rt.now) (map (λ word. word.now) words.now) result output.old output.new errors.old errors.new
         ⊎ IsRefused E.contents (map (λ word. word.now) words.now) result output.old output.new errors.old errors.new }
 {
     match read_words(alloc, words) {

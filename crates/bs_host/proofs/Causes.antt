@@ -19,7 +19,7 @@ pub refused_has_cause : (failed : Type 0) (refusal : Option Fault) (fault : Faul
 refused_has_cause failed refusal TooLong is = tt
 refused_has_cause failed refusal (OfPlan reason) is = tt
 refused_has_cause failed refusal Memory is = tt
-refused_has_cause failed refusal Broken is = tt
+refused_has_cause failed refusal Broken is = absurd is
 refused_has_cause failed refusal (Write written) is = absurd is
 
 -- nor is a fault of the run

@@ -31,7 +31,10 @@ use Rattle.bs_host.specs.inner.Hosted.{IsCoreOf, IsRead}
 use Rattle.bs_host.specs.declared.route.Route.{Route}
 use Rattle.bs_host.specs.Routing.{acts_in, capacity_of, routes_from, routes_of, stays_of, strays_in}
 use Rattle.bs_host.specs.inner.Routing.{IsRouted, acts_of}
-use Rattle.bs_host.specs.Faults.{IsFault, Leaves, fault_of, fault_of_opening, fault_of_writing, refusal_of, refusal_of_plan}
+use Rattle.bs_workers.specs.Causes.{IsCause}
+use Rattle.bs_workers.specs.declared.fault.Run.{Run}
+use Rattle.bs_workers.specs.declared.fault.Run.TheVariants as run
+use Rattle.bs_host.specs.Faults.{IsFault, Leaves, fault_of, fault_of_opening, fault_of_run, fault_of_writing, refusal_of, refusal_of_plan}
 use Rattle.bs_host.specs.inner.Faults.{IsRefusal}
 use Rattle.bs_host.specs.Transcript.{transcript_of}
 use Rattle.bs_host.specs.inner.Transcript.{core_text_of}
@@ -122,19 +125,19 @@ pub read_refused : (blocks : ℕ) (file : List ℕ) (plan : Plan) (lines : List 
     → IsRefusal (refusal_of_plan blocks (Ok plan)) fault → IsRefusal (refusal_of blocks file) fault
 read_refused blocks file plan lines fault read is = subst (λ found. IsRefusal found fault) (sym (refusal_of_read blocks file plan lines read)) is
 
-pub refused_is_fault : (refusal : Option Fault) (error : Fault) → IsRefusal refusal error → IsFault refusal error
-refused_is_fault refusal TooLong is = is
-refused_is_fault refusal (OfPlan reason) is = is
-refused_is_fault refusal Memory is = is
-refused_is_fault refusal Broken is = is
-refused_is_fault refusal (Write written) is = absurd is
+pub refused_is_fault : (refuses : Type 0) (refusal : Option Fault) (error : Fault) → IsRefusal refusal error → IsFault refuses refusal error
+refused_is_fault refuses refusal TooLong is = is
+refused_is_fault refuses refusal (OfPlan reason) is = is
+refused_is_fault refuses refusal Memory is = is
+refused_is_fault refuses refusal Broken is = absurd is
+refused_is_fault refuses refusal (Write written) is = absurd is
 
 pub refused_leaves : {W : Type 0} (contents : W → Option (List ℕ)) (text : List ℕ) (old : W) (refusal : Option Fault) (error : Fault) → IsRefusal refusal error
     → Leaves contents text old old error
 refused_leaves contents text old refusal TooLong is = refl
 refused_leaves contents text old refusal (OfPlan reason) is = refl
 refused_leaves contents text old refusal Memory is = refl
-refused_leaves contents text old refusal Broken is = refl
+refused_leaves contents text old refusal Broken is = absurd is
 refused_leaves contents text old refusal (Write written) is = absurd is
 
 -- from the opened file to its transcript
@@ -179,9 +182,15 @@ fresh_core blocks file lines plan core opens = is_fresh BLOCK_BYTES blocks core.
 
 -- why a transcript is not written whole
 
-pub writing_is_fault : (refusal : Option Fault) (error : TranscriptFault) → refusal ≡ None → IsFault refusal (fault_of_writing error)
-writing_is_fault refusal transcript.Memory none = tt
-writing_is_fault refusal (transcript.Write fault) none = none
+pub writing_is_fault : (refuses : Type 0) (refusal : Option Fault) (error : TranscriptFault) → refusal ≡ None → IsFault refuses refusal (fault_of_writing error)
+writing_is_fault refuses refusal transcript.Memory none = tt
+writing_is_fault refuses refusal (transcript.Write fault) none = none
+
+-- why a run is stopped
+
+pub run_is_fault : (refuses : Type 0) (refusal : Option Fault) (error : Run) → refusal ≡ None → IsCause refuses error → IsFault refuses refusal (fault_of_run error)
+run_is_fault refuses refusal run.Memory none cause = tt
+run_is_fault refuses refusal run.Broken none cause = (none, cause)
 
 pub writing_leaves : {W : Type 0} (contents : W → Option (List ℕ)) (text : List ℕ) (old new : W) (error : TranscriptFault)
     → LeavesOfText contents text old new error → Leaves contents text old new (fault_of_writing error)

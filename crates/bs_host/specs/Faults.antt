@@ -43,13 +43,14 @@ refusal_of_plan blocks (Ok plan) = if nat_lt blocks (blocks_of_all BLOCK_BYTES p
 unfoldable pub refusal_of : ℕ → List ℕ → Option Fault
 refusal_of blocks file = if nat_lt MOST_FILE_BYTES (length file) then Some TooLong else refusal_of_plan blocks (plan_of file)
 
--- like `IsRefusal`; a writer fails only if there is no refusal
-abbrev pub IsFault : Option Fault → Fault → Type 0
-IsFault refusal TooLong = refusal ≡ Some TooLong
-IsFault refusal (OfPlan reason) = refusal ≡ Some (OfPlan reason)
-IsFault refusal Memory = Unit {0}
-IsFault refusal Broken = refusal ≡ None
-IsFault refusal (Write written) = refusal ≡ None
+-- A refusal is the first reason. A writer fails only if there is none, and a run is broken off only
+-- if there is none and the gate may refuse a job. Nothing is claimed of `Memory`.
+abbrev pub IsFault : Type 0 → Option Fault → Fault → Type 0
+IsFault refuses refusal TooLong = refusal ≡ Some TooLong
+IsFault refuses refusal (OfPlan reason) = refusal ≡ Some (OfPlan reason)
+IsFault refuses refusal Memory = Unit {0}
+IsFault refuses refusal Broken = (refusal ≡ None) × refuses
+IsFault refuses refusal (Write written) = refusal ≡ None
 
 -- a fault of the writer has this cause; nothing is claimed of the others
 abbrev pub HasCause : Type 0 → Fault → Type 0

@@ -35,7 +35,7 @@ pub enum Fault {
     Plan(PlanRefusal),
     #[error("out of memory")]
     Memory,
-    /// The `Gate` refused a job, or the run did not end correctly (`bs_workers::Run::Broken`).
+    /// The `Gate` refused a job.
     #[error("broken")]
     Broken,
     /// The writer failed after it took this many bytes.

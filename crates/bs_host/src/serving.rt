@@ -29,7 +29,6 @@ use bs_transcript::{Unrecorded, WriteCalls};
 use bs_workers::{Gate, run};
 use std::alloc::{AllocError, Global};
 use std::io::Write;
-use std::sync::Wait;
 use std::thread::{Threads, join};
 
 /// The largest number of threads. If more are requested, this many are used.
@@ -141,7 +140,7 @@ fn read_requests<R: Threads + Sync>(
 }
 
 /// Like `serve`, by the calls `C`: a fault of the writer is a call that failed.
-pub fn serve_by<R: Threads + Wait + Sync, G: Gate, W: Write, C: WriteCalls<W>>(
+pub fn serve_by<R: Threads + Sync, G: Gate, W: Write, C: WriteCalls<W>>(
     rt: &R,
     alloc: Global,
     input: &[u8],
@@ -153,7 +152,7 @@ pub fn serve_by<R: Threads + Wait + Sync, G: Gate, W: Write, C: WriteCalls<W>>(
     ensures served { OnOk result (refusal_of blocks input.now ≡ None) }
     ensures core { IfOk result (Hosts blocks input.now) }
     ensures written { OnOk result (Appends (W.contents output.old) (W.contents output.new) (transcript_of blocks input.now)) }
-    ensures fault { IfErr result (IsFault (refusal_of blocks input.now)) }
+    ensures fault { IfErr result (IsFault (G.may_refuse gate.now) (refusal_of blocks input.now)) }
     ensures left { IfErr result (Leaves W.contents (transcript_of blocks input.now) output.old output.new) }
     ensures failed { IfErr result (HasCause (C.has_failed output.new)) }
 {
@@ -176,7 +175,7 @@ pub fn serve_by<R: Threads + Wait + Sync, G: Gate, W: Write, C: WriteCalls<W>>(
 /// one more frees the acts while they render. `gate` is consulted before each job, with the
 /// thread's number. After every fault but a writer's the writer is unchanged, and nothing is
 /// allocated once the first byte is written. Returns the core.
-pub fn serve<R: Threads + Wait + Sync, G: Gate, W: Write>(
+pub fn serve<R: Threads + Sync, G: Gate, W: Write>(
     rt: &R,
     alloc: Global,
     input: &[u8],
@@ -188,7 +187,7 @@ pub fn serve<R: Threads + Wait + Sync, G: Gate, W: Write>(
     ensures served { OnOk result (refusal_of blocks input.now ≡ None) }
     ensures core { IfOk result (Hosts blocks input.now) }
     ensures written { OnOk result (Appends (W.contents output.old) (W.contents output.new) (transcript_of blocks input.now)) }
-    ensures fault { IfErr result (IsFault (refusal_of blocks input.now)) }
+    ensures fault { IfErr result (IsFault (G.may_refuse gate.now) (refusal_of blocks input.now)) }
     ensures left { IfErr result (Leaves W.contents (transcript_of blocks input.now) output.old output.new) }
 {
     serve_by::<R, G, W, Unrecorded>(rt, alloc, input, blocks, workers, gate, output)

@@ -32,7 +32,7 @@ use Rattle.bs_plane.specs.declared.cell.Cell.{Cell}
 use Rattle.bs_plane.specs.declared.plane.Plane.{Plane}
 use Rattle.bs_plane.specs.Plane.{Shows, contents, occupants, parts_on}
 use Rattle.bs_plane.specs.inner.Plane.{with_body}
-use Rattle.bs_plane.specs.Onward.{MovesSnakes, grown_in, onward, onward_by}
+use Rattle.bs_plane.specs.Onward.{MovesSnakes, grown_in, living_head, living_heads, onward, onward_by}
 use Rattle.bs_plane.specs.inner.Onward.{HasGround, MovesSnake, SeesSnake}
 use Rattle.bs_plane.proofs.Places.{same_cells}
 
@@ -150,9 +150,18 @@ module _ (b : Board) (moves : List (List ℕ × Direction)) (i : ℕ) (within : 
       more ∙ ap (λ l. l ++ snake_record (onward b moves s)) before ∙ append_assoc bytes (flat_map snake_record done) (snake_record (onward b moves s))
       ∙ ap (λ l. bytes ++ l) (sym all)
 
-  pub moves_more : (plane plane' : Plane) (bytes now now' : List ℕ) → is_living s ≡ true → MovesSnakes i b moves plane bytes now
-      → MovesSnake b (given_to moves s.id) s plane plane' now now' → MovesSnakes (i + 1) b moves plane' bytes now'
-  moves_more plane plane' bytes now now' alive so_far step =
+  listed_more : (heads here here' : List Point) → here ≡ heads ++ living_heads done → here' ≡ here ++ living_head (onward b moves s)
+      → here' ≡ heads ++ living_heads (map (onward b moves) (take (i + 1) b.snakes))
+  listed_more heads here here' before more =
+      let all : living_heads (map (onward b moves) (take (i + 1) b.snakes)) ≡ living_heads done ++ living_head (onward b moves s) =
+      ap living_heads moved_more ∙ flat_map-append living_head done (onward b moves s ∷ []) ∙ ap (λ l. living_heads done ++ l) (append-nil (living_head (onward b moves s))) in
+      more ∙ ap (λ l. l ++ living_head (onward b moves s)) before ∙ append_assoc heads (living_heads done) (living_head (onward b moves s))
+      ∙ ap (λ l. heads ++ l) (sym all)
+
+  pub moves_more : (head : Point) (plane plane' : Plane) (bytes now now' : List ℕ) (heads here here' : List Point) → is_living s ≡ true
+      → MovesSnakes i b moves plane bytes now heads here → MovesSnake b (given_to moves s.id) s head plane plane' now now' → here' ≡ here ++ head ∷ []
+      → MovesSnakes (i + 1) b moves plane' bytes now' heads here'
+  moves_more head plane plane' bytes now now' heads here here' alive so_far step pushed =
       let shows = so_far.shows in
       let before : Shows (contents b.food (cells_of b.hazards) (done ++ s ∷ left)) plane =
       subst (λ (l : List Snake). Shows (contents b.food (cells_of b.hazards) (done ++ l)) plane) split shows.cells in
@@ -167,6 +176,9 @@ module _ (b : Board) (moves : List (List ℕ × Direction)) (i : ℕ) (within : 
           cells = subst (λ (l : List Snake). Shows (contents b.food (cells_of b.hazards) l) plane') (sym joined) after;
         };
         written = written_more bytes now now' so_far.written step.written;
+        listed =
+            let own : living_head (onward b moves s) ≡ head ∷ [] = rw alive' (ap (λ p. p ∷ []) step.leads) in
+            listed_more heads here here' so_far.listed (pushed ∙ ap (λ l. here ++ l) (sym own));
         lives = λ seat below lives. elim (cases_eq seat i) [
           | inl same ↦ rw same step.lives
           | inr other ↦ so_far.lives seat (omega arith) lives
@@ -177,20 +189,24 @@ module _ (b : Board) (moves : List (List ℕ × Direction)) (i : ℕ) (within : 
         ];
       }
 
-  pub copies_more : (plane plane' : Plane) (bytes now now' : List ℕ) → is_living s ≡ false → IsWritable s → MovesSnakes i b moves plane bytes now
-      → now' ≡ now ++ snake_record s → plane' ≡ plane → MovesSnakes (i + 1) b moves plane' bytes now'
-  copies_more plane plane' bytes now now' dead fit so_far more same =
+  pub copies_more : (plane plane' : Plane) (bytes now now' : List ℕ) (heads here here' : List Point) → is_living s ≡ false → IsWritable s
+      → MovesSnakes i b moves plane bytes now heads here → now' ≡ now ++ snake_record s → plane' ≡ plane → here' ≡ here
+      → MovesSnakes (i + 1) b moves plane' bytes now' heads here'
+  copies_more plane plane' bytes now now' heads here here' dead fit so_far more same kept =
       let shows = so_far.shows in
       let stays : onward b moves s ≡ s = dead_onward b (given_to moves s.id) s dead in
       let list : map (onward b moves) (take i b.snakes) ++ drop i b.snakes ≡ map (onward b moves) (take (i + 1) b.snakes) ++ left =
       ap (λ l. done ++ l) (split ∙ ap (λ t. t ∷ left) (sym stays)) ∙ sym joined in
-      let all : MovesSnakes (i + 1) b moves plane bytes now' = record {
+      let all : MovesSnakes (i + 1) b moves plane bytes now' heads here' = record {
         shows = record {
           width = shows.width;
           height = shows.height;
           cells = subst (λ (l : List Snake). Shows (contents b.food (cells_of b.hazards) l) plane) list shows.cells;
         };
         written = written_more bytes now now' so_far.written (more ∙ ap (λ t. now ++ snake_record t) (sym stays));
+        listed =
+            let own : living_head (onward b moves s) ≡ [] = ap living_head stays ∙ rw dead refl in
+            listed_more heads here here' so_far.listed (kept ∙ sym (append-nil here) ∙ ap (λ l. here ++ l) (sym own));
         lives = λ seat below lives. elim (cases_eq seat i) [
           | inl here ↦ absurd (false≢true (sym dead ∙ ap (λ k. is_living (snake_at b.snakes k)) (sym here) ∙ lives))
           | inr other ↦ so_far.lives seat (omega arith) lives
@@ -202,8 +218,8 @@ module _ (b : Board) (moves : List (List ℕ × Direction)) (i : ℕ) (within : 
       } in
       rw same all
 
-  pub ground_of : (plane : Plane) (bytes now : List ℕ) → MovesSnakes i b moves plane bytes now → HasGround b plane
-  ground_of plane bytes now so_far = record {
+  pub ground_of : (plane : Plane) (bytes now : List ℕ) (heads here : List Point) → MovesSnakes i b moves plane bytes now heads here → HasGround b plane
+  ground_of plane bytes now heads here so_far = record {
     width = so_far.shows.width;
     height = so_far.shows.height;
     on = contents b.food (cells_of b.hazards) (map (onward b moves) (take i b.snakes) ++ drop i b.snakes);

@@ -1,33 +1,49 @@
 -- The turn over the plane, from its steps.
-use Rattle.std.proofs.Common.{◌≡◌, ℕ, ◌+◌, ◌<◌, List, [], ◌++◌, length, take, drop, map, All, sym, ap, subst, ◌∙◌, arith, append-nil}
+use Rattle.std.proofs.Common.{◌≡◌, ℕ, zero, suc, ◌+◌, ◌<◌, true, List, [], ◌∷◌, ◌++◌, length, take, drop, map, All, refl, sym, ap, subst, ◌∙◌, arith, append-nil}
 use Rattle.std.specs.List.{flat_map}
-use Rattle.std.proofs.lemmas.List.{drop_all, get_or-map, length-map, take_all}
-use Rattle.std.proofs.lemmas.List.Elements.{All-from_get_or}
+use Rattle.std.proofs.lemmas.List.{drop_all, length-map, take_all}
+use Rattle.std.proofs.lemmas.List.Elements.{All-head, All-tail}
 use Rattle.bs_board.specs.declared.boards.board.Board.{Board}
 use Rattle.bs_board.specs.declared.boards.board.Mode.{Mode}
 use Rattle.bs_board.specs.declared.boards.board.Mode.TheVariants.{Standard, Solo, Constrictor, Wrapped}
+use Rattle.bs_board.specs.declared.boards.point.Point.{Point}
 use Rattle.bs_board.specs.declared.boards.snake.Snake.{Snake}
 use Rattle.bs_board.specs.declared.records.layout.BoardBytes.{BoardBytes}
+use Rattle.bs_board.specs.boards.Cell.{head_of}
 use Rattle.bs_board.specs.boards.Legal.{IsLegal}
+use Rattle.bs_board.specs.boards.Over.{is_living}
 use Rattle.bs_board.specs.commands.Orders.{Orders}
 use Rattle.bs_board.specs.records.Layout.{IsBoardBytes, cells_of}
 use Rattle.bs_board.specs.records.Record.{record_of, snake_record}
 use Rattle.bs_board.specs.records.Kept.{IsLegalRecord}
-use Rattle.bs_board.specs.records.Writing.{IsWritable}
 use Rattle.bs_board.proofs.records.BoardRecord.{record_is_of_one_board}
 use Rattle.bs_board.proofs.records.Writable.{legal_is_writable}
 use Rattle.bs_food.proofs.NewFood.{Refed, refed_self, spawned_refed}
-use Rattle.bs_rules.specs.Collision.{nobody}
+use Rattle.bs_rules.specs.Collision.{snake_at}
 use Rattle.bs_rules.specs.Turn.{turn_of}
 use Rattle.bs_rules.proofs.TurnLegal.{turn_is_legal}
 use Rattle.bs_plane.specs.declared.plane.Plane.{Plane}
 use Rattle.bs_plane.specs.Food.{HasFood}
-use Rattle.bs_plane.specs.Onward.{AreAlone, MovesSnakes, ShowsSnakes, onward}
+use Rattle.bs_plane.specs.Onward.{AreAlone, MovesSnakes, ShowsSnakes, living_head, living_heads, onward}
 use Rattle.bs_plane.specs.Plane.{ShowsBoard, contents}
 use Rattle.bs_plane.specs.Turn.{GoOn, fed_onward, followed, refilled_in}
 use Rattle.bs_plane.specs.inner.Turn.{MayStep, Plays, PlaysFrom, Refills}
 use Rattle.bs_plane.specs.Written.{WritesNext}
 use Rattle.bs_plane.proofs.QuietTurn.{is_followed}
+
+all_right : (P : Point → Type 0) (xs ys : List Point) → All P (xs ++ ys) → All P ys
+all_right P [] ys all = all
+all_right P (x ∷ xs) ys all = all_right P xs ys (All-tail P x (xs ++ ys) all)
+
+-- what holds of each head in the list holds of a living head
+head_is : (P : Point → Type 0) (snakes : List Snake) (seat : ℕ) → seat < length snakes → is_living (snake_at snakes seat) ≡ true → All P (living_heads snakes)
+    → P (head_of (snake_at snakes seat).body)
+head_is P [] seat within alive all = absurd (omega arith)
+head_is P (s ∷ snakes) zero within alive all =
+    let lives : is_living s ≡ true = alive in
+    let own : living_head s ≡ head_of s.body ∷ [] = rw lives refl in
+    All-head P (head_of s.body) (living_heads snakes) (subst (λ (l : List Point). All P (l ++ living_heads snakes)) own all)
+head_is P (s ∷ snakes) (suc seat) within alive all = head_is P snakes seat (omega arith) alive (all_right P (living_head s) (living_heads snakes) all)
 
 refilled_refed : (mode : Mode) (words : List ℕ) (b : Board) → Refed b (refilled_in mode words b)
 refilled_refed Standard words b = spawned_refed words b
@@ -36,7 +52,7 @@ refilled_refed Constrictor words b = refed_self b
 refilled_refed Wrapped words b = spawned_refed words b
 
 module _ (b : Board) (orders : Orders) (legal : IsLegal b) (parts : BoardBytes) (of : IsBoardBytes b parts) (may : MayStep parts orders)
-    (plane1 plane2 : Plane) (none snakes food food' bytes : List ℕ) where
+    (plane1 plane2 : Plane) (none snakes food food' bytes : List ℕ) (no_heads heads : List Point) where
   abbrev moved : List Snake
   moved = map (onward b orders.moves) b.snakes
 
@@ -46,7 +62,7 @@ module _ (b : Board) (orders : Orders) (legal : IsLegal b) (parts : BoardBytes) 
   many : length moved ≡ length b.snakes
   many = length-map b.snakes (onward b orders.moves)
 
-  module _ (moves : MovesSnakes (length b.snakes) b orders.moves plane1 none snakes) (empty : none ≡ []) where
+  module _ (moves : MovesSnakes (length b.snakes) b orders.moves plane1 none snakes no_heads heads) (empty : none ≡ []) (unlisted : no_heads ≡ []) where
     all : take (length b.snakes) b.snakes ≡ b.snakes
     all = take_all (length b.snakes) b.snakes (omega arith)
 
@@ -63,28 +79,26 @@ module _ (b : Board) (orders : Orders) (legal : IsLegal b) (parts : BoardBytes) 
     moved_written = moves.written ∙ ap (λ l. l ++ flat_map snake_record (map (onward b orders.moves) (take (length b.snakes) b.snakes))) empty
         ∙ ap (λ l. flat_map snake_record (map (onward b orders.moves) l)) all
 
-    pub moved_fit : All IsWritable moved
-    moved_fit =
-        All-from_get_or IsWritable moved nobody
-        (λ seat inside.
-        let within : seat < length b.snakes = rw many at inside in
-        subst IsWritable (sym (get_or-map (onward b orders.moves) b.snakes seat nobody nobody within)) (moves.fits seat within))
+    pub moved_listed : heads ≡ living_heads moved
+    moved_listed = moves.listed ∙ ap (λ l. l ++ living_heads (map (onward b orders.moves) (take (length b.snakes) b.snakes))) unlisted
+        ∙ ap (λ l. living_heads (map (onward b orders.moves) l)) all
 
-    module _ (alone : (list : List Snake) → length list ≡ parts.seats → snakes ≡ flat_map snake_record list → All IsWritable list → AreAlone list plane1)
-        (refills : Refills (λ c. refilled_in c.mode orders.words c) parts snakes plane1 food plane2 food') (no_food : food ≡ [])
+    module _ (alone : AreAlone heads plane1) (refills : Refills (λ c. refilled_in c.mode orders.words c) parts heads plane1 food plane2 food') (no_food : food ≡ [])
         (writes : WritesNext parts food' snakes bytes) where
       go_on : GoOn b orders.moves
       go_on = record {
         live = moves.lives;
         alone = λ seat within alive.
-            alone moved (many ∙ sym of.seats) moved_written moved_fit (contents b.food (cells_of b.hazards) moved) moved_shown.cells seat (rw many within) alive;
+            let on = contents b.food (cells_of b.hazards) moved in
+            head_is (λ p. (on p).parts ≡ 1) moved seat (rw many within) alive
+            (subst (λ (l : List Point). All (λ p. (on p).parts ≡ 1) l) moved_listed (alone on moved_shown.cells));
       }
 
       is_turn : turn_of b orders ≡ followed b orders
       is_turn = is_followed b orders go_on may.no_hazards may.no_food
 
       has : HasFood x plane2 food'
-      has = refills b orders.moves of (legal_is_writable b legal).cells moved_shown moved_written moved_fit no_food
+      has = refills b orders.moves of (legal_is_writable b legal).cells moved_shown moved_listed no_food
 
       only : x ≡ record (fed_onward b orders.moves) { food = x.food }
       only = (refilled_refed b.mode orders.words (fed_onward b orders.moves)).only

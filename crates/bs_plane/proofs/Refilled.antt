@@ -17,7 +17,8 @@ use Rattle.bs_rules.specs.Feeding.{food_left, has_head_on}
 use Rattle.bs_rules.proofs.CollisionTest.{has_cell}
 use Rattle.bs_plane.specs.declared.plane.Plane.{Plane}
 use Rattle.bs_plane.specs.Plane.{Changes, ShowsBoard, contents}
-use Rattle.bs_plane.specs.Food.{HasFood, food_bytes, without_eaten}
+use Rattle.bs_plane.specs.Food.{HasFood, food_bytes}
+use Rattle.bs_plane.proofs.EatenFood.{without_eaten}
 use Rattle.bs_board.specs.declared.records.layout.BoardBytes.{BoardBytes}
 use Rattle.bs_food.specs.Spawning.{spawned}
 use Rattle.bs_plane.specs.Onward.{ShowsSnakes, onward}
@@ -96,14 +97,14 @@ stays_empty words b moves plane there food mode is empty shows none =
 
 -- in the other modes food is added
 pub spawns_in : {E : Type 0} (mode : Mode) (words : List ℕ) → ((b : Board) → refilled_in mode words b ≡ spawned words b) → (result : Result Bool E) (parts : BoardBytes)
-    → parts.mode ≡ mode → (snakes : List ℕ) (old : Plane) (food : List ℕ) (new : Plane) (food' : List ℕ)
-    → IfOk result (λ done. IsTrue done → Refills (λ b. spawned words b) parts snakes old food new food')
-    → IfOk result (λ done. IsTrue done → Refills (λ b. refilled_in b.mode words b) parts snakes old food new food')
-spawns_in mode words is result parts same snakes old food new food' refills =
+    → parts.mode ≡ mode → (heads : List Point) (old : Plane) (food : List ℕ) (new : Plane) (food' : List ℕ)
+    → IfOk result (λ done. IsTrue done → Refills (λ b. spawned words b) parts heads old food new food')
+    → IfOk result (λ done. IsTrue done → Refills (λ b. refilled_in b.mode words b) parts heads old food new food')
+spawns_in mode words is result parts same heads old food new food' refills =
     IfOk-weaker result _ _
-    (λ done refilled ok b moves of bytes shows written fits none.
+    (λ done refilled ok b moves of bytes shows listed none.
     let own : b.mode ≡ mode = sym of.mode ∙ same in
     let x = fed_onward b moves in
     let more : refilled_in b.mode words x ≡ spawned words x = ap (λ m. refilled_in m words x) own ∙ is x in
-    subst (λ (y : Board). HasFood y new food') (sym more) (refilled ok b moves of bytes shows written fits none))
+    subst (λ (y : Board). HasFood y new food') (sym more) (refilled ok b moves of bytes shows listed none))
     refills

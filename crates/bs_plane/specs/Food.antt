@@ -3,10 +3,9 @@ use Rattle.std.specs.Prelude.{◌≡◌, ℕ, not, ◌&&◌, List, ◌++◌, fil
 use Rattle.std.specs.List.{list_any}
 use Rattle.bs_board.specs.declared.boards.board.Board.{Board}
 use Rattle.bs_board.specs.declared.boards.point.Point.{Point}
-use Rattle.bs_board.specs.declared.boards.snake.Snake.{Snake}
+use Rattle.bs_board.specs.boards.Cell.{is_same_cell}
 use Rattle.bs_board.specs.records.Record.{cell_bytes}
 use Rattle.bs_board.specs.records.Writing.{IsByteCell}
-use Rattle.bs_rules.specs.Feeding.{has_head_on}
 use Rattle.bs_plane.specs.declared.cell.Cell.{Cell}
 use Rattle.bs_plane.specs.declared.plane.Plane.{Plane}
 use Rattle.bs_plane.specs.Plane.{Shows, ShowsBoard}
@@ -15,9 +14,9 @@ use Rattle.bs_plane.specs.Plane.{Shows, ShowsBoard}
 abbrev pub food_bytes : List Point → List ℕ
 food_bytes = flat_map (cell_bytes 0)
 
--- no food under living heads
-abbrev pub without_eaten : List Snake → (Point → Cell) → Point → Cell
-without_eaten snakes on p = record (on p) { food = (on p).food && not (list_any (has_head_on p) snakes) }
+-- without the food on these cells
+abbrev pub without_foods : List Point → (Point → Cell) → Point → Cell
+without_foods cells on p = record (on p) { food = (on p).food && not (list_any (is_same_cell p) cells) }
 
 -- the food that a plane has is appended, in the order of the list
 abbrev pub KeepsFood : Plane → List ℕ → List ℕ → List ℕ → Type 0

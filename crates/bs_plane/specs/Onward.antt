@@ -1,5 +1,5 @@
 -- A turn in which no snake goes out.
-use Rattle.std.specs.Prelude.{◌≡◌, ℕ, ◌<◌, ◌≤◌, true, false, not, ◌&&◌, List, ◌++◌, length, take, drop, Option, map, flat_map}
+use Rattle.std.specs.Prelude.{◌≡◌, ℕ, ◌<◌, ◌≤◌, true, false, not, ◌&&◌, cond, List, [], ◌∷◌, ◌++◌, length, take, drop, Option, map, flat_map, All}
 use Rattle.std.specs.List.{list_any}
 use Rattle.bs_board.specs.declared.boards.board.Board.{Board}
 use Rattle.bs_board.specs.declared.boards.board.Mode.{Mode}
@@ -49,15 +49,22 @@ pub record ShowsSnakes (b : Board) (snakes : List Snake) (plane : Plane) : Type 
   pub height : plane.height ≡ b.height
   pub cells : Shows (contents b.food (cells_of b.hazards) snakes) plane
 
--- the snakes of the seats below `count` moved, on the plane and in bytes
-pub record MovesSnakes (count : ℕ) (b : Board) (moves : List (List ℕ × Direction)) (plane : Plane) (bytes bytes' : List ℕ) : Type 0 where
+-- the head of a snake that lives
+abbrev pub living_head : Snake → List Point
+living_head s = cond (is_living s) (head_of s.body ∷ []) []
+
+-- the heads of the living snakes, in the order of the seats
+abbrev pub living_heads : List Snake → List Point
+living_heads = flat_map living_head
+
+-- the snakes of the seats below `count` moved, on the plane and in bytes, and their heads listed
+pub record MovesSnakes (count : ℕ) (b : Board) (moves : List (List ℕ × Direction)) (plane : Plane) (bytes bytes' : List ℕ) (heads heads' : List Point) : Type 0 where
   pub shows : ShowsSnakes b (map (onward b moves) (take count b.snakes) ++ drop count b.snakes) plane
   pub written : bytes' ≡ bytes ++ flat_map snake_record (map (onward b moves) (take count b.snakes))
+  pub listed : heads' ≡ heads ++ living_heads (map (onward b moves) (take count b.snakes))
   pub lives : (seat : ℕ) → seat < count → is_living (snake_at b.snakes seat) ≡ true → LivesOn b (given_to moves (snake_at b.snakes seat).id) (snake_at b.snakes seat)
   pub fits : (seat : ℕ) → seat < count → IsWritable (onward b moves (snake_at b.snakes seat))
 
--- each living head is the only part on its cell
-abbrev pub AreAlone : List Snake → Plane → Type 0
-AreAlone snakes plane =
-    (on : Point → Cell) → Shows on plane → (seat : ℕ) → seat < length snakes → is_living (snake_at snakes seat) ≡ true
-    → (on (head_of (snake_at snakes seat).body)).parts ≡ 1
+-- each head is the only part on its cell
+abbrev pub AreAlone : List Point → Plane → Type 0
+AreAlone heads plane = (on : Point → Cell) → Shows on plane → All (λ head. (on head).parts ≡ 1) heads

@@ -1,45 +1,27 @@
 //! The food after a turn.
 
-ghost use Rattle.std.specs.Prelude.{◌≡◌, ◌<◌, ◌+◌, ◌*◌, false, List, IsTrue, IfOk, IfSome, All, count_by, flat_map, length};
+ghost use Rattle.std.specs.Prelude.{◌≡◌, ◌<◌, ◌+◌, ◌*◌, IsTrue, IfOk, IfSome, count_by};
 ghost use Rattle.bs_board.specs.declared.boards.board.Board.{Board as AnyBoard};
-ghost use Rattle.bs_board.specs.declared.boards.snake.Snake.{Snake as AnySnake};
-ghost use Rattle.bs_board.specs.boards.Cell.{head_of};
-ghost use Rattle.bs_board.specs.records.Layout.{IsSnakeBytes};
-ghost use Rattle.bs_board.specs.records.Record.{snake_record};
-ghost use Rattle.bs_board.specs.records.Writing.{IsByteCell, IsWritable};
 ghost use Rattle.bs_food.specs.Free.{point_at};
 ghost use Rattle.bs_food.specs.Spawning.{spawned, with_food_by_chance, with_one_food};
-ghost use Rattle.bs_plane.specs.Plane.{Changes, is_free, with_food};
-ghost use Rattle.bs_plane.specs.Food.{HasFood, KeepsFood, SpawnsBy, without_eaten};
+ghost use Rattle.bs_plane.specs.Plane.{Changes, is_free};
+ghost use Rattle.bs_plane.specs.Food.{HasFood, KeepsFood, SpawnsBy, without_foods};
 ghost use Rattle.bs_plane.specs.inner.Food.{AddsFood, FindsFree, KeepsCell, PutsFood, with_food_by};
 
 use crate::cell::Cell;
 use crate::plane::Plane;
+use bs_board::Point;
 use bs_board::limits::MOST_CHANCE;
-use bs_board::{Point, SnakeBytes, split_snake};
 use std::alloc::AllocError;
 
-/// Removes the food under a head.
-#[inline(always)]
-fn remove_under(plane: &mut Plane, snake: &SnakeBytes<'_>) -> bool
-    ensures { IsTrue result → (s : AnySnake) → IsSnakeBytes s snake.now → All (IsByteCell 1) s.body
-        → Changes (with_food (head_of s.body) false) plane.old plane.new }
+/// Removes the food under these heads from the plane.
+pub fn remove_eaten(plane: &mut Plane, heads: &[Point]) -> bool
+    ensures { IsTrue result → Changes (without_foods heads.now) plane.old plane.new }
 {
-    snake.body.len() >= 2 && plane.put_food(snake.part(0), false)
-}
-
-/// Removes the food under the living heads of these records from the plane.
-pub fn remove_eaten(plane: &mut Plane, seats: usize, snakes: &[u8]) -> bool
-    ensures { IsTrue result → (list : List AnySnake) → length list ≡ seats → snakes.now ≡ flat_map snake_record list → All IsWritable list
-        → Changes (without_eaten list) plane.old plane.new }
-{
-    let mut left = snakes;
-    for _ in 0..seats {
-        let (snake, rest) = split_snake(left);
-        if snake.is_living() && !remove_under(plane, &snake) {
+    for head in heads {
+        if !plane.put_food(*head, false) {
             return false;
         }
-        left = rest;
     }
     true
 }

@@ -1,15 +1,15 @@
 //! The motion of the snakes in a turn: each record of a snake becomes that of the snake moved, fed
 //! and grown.
 
-ghost use Rattle.std.specs.Prelude.{◌≡◌, ◌+◌, ◌-◌, ◌<◌, ◌≤◌, ◌∷◌, ◌++◌, [], not, true, List, All, IsTrue, IfOk, IfSome, OnOk, length, slice_index_or, flat_map, take, drop, cond, false};
+ghost use Rattle.std.specs.Prelude.{◌≡◌, ◌+◌, ◌-◌, ◌<◌, ◌≤◌, ◌∷◌, ◌++◌, [], not, true, IsTrue, IfOk, IfSome, OnOk, length, slice_index_or, take, drop, cond, false};
 ghost use Rattle.bs_board.specs.declared.boards.board.Board.{Board as AnyBoard};
 ghost use Rattle.bs_board.specs.declared.boards.snake.Snake.{Snake as AnySnake};
-ghost use Rattle.bs_board.specs.boards.Cell.{head_of, is_same_cell, origin};
+ghost use Rattle.bs_board.specs.boards.Cell.{is_same_cell, origin};
 ghost use Rattle.bs_board.specs.boards.Wrap.{AreSides, wrap_of};
 ghost use Rattle.bs_board.specs.commands.Setup.{is_side};
-ghost use Rattle.bs_board.specs.records.Layout.{IsBoardBytes, IsSnakeBytes};
+ghost use Rattle.bs_board.specs.records.Layout.{IsBoardBytes};
 ghost use Rattle.bs_board.specs.records.Record.{cell_bytes, snake_record, two_bytes};
-ghost use Rattle.bs_board.specs.records.Writing.{IsByteCell, IsWritable};
+ghost use Rattle.bs_board.specs.records.Writing.{IsByteCell};
 ghost use Rattle.bs_board.specs.declared.boards.board.Mode.TheVariants.{Constrictor, Standard};
 ghost use Rattle.bs_plane.specs.Onward.{AreAlone, MovesSnakes, ShowsSnakes};
 ghost use Rattle.bs_plane.specs.inner.Onward.{HasGround, IsFed, IsStep, MovesSnake, SeesSnake, SwapsBody, repeated, stepped_by};
@@ -220,7 +220,8 @@ fn push_stepped(into: &mut Vec<u8>, snake: &SnakeBytes<'_>, step: Step) -> Resul
     push_body(into, snake.body, step.grows)
 }
 
-/// Moves a living snake. False if the turn is not one that the plane can follow.
+/// Moves a living snake, and gives its new head. `None` if the turn is not one that the plane can
+/// follow.
 #[inline(always)]
 fn move_living(
     plane: &mut Plane,
@@ -228,47 +229,49 @@ fn move_living(
     snake: &SnakeBytes<'_>,
     given: Option<Direction>,
     into: &mut Vec<u8>,
-) -> Result<bool, AllocError>
+) -> Result<Option<Point>, AllocError>
     requires width { is_side board.now.width ≡ true }
     requires height { is_side board.now.height ≡ true }
-    ensures { IfOk result (λ moved. IsTrue moved → (b : AnyBoard) (s : AnySnake) → IsBoardBytes b board.now → HasGround b plane.old → SeesSnake s snake.now
-        → MovesSnake b given s plane.old plane.new into.old.items into.new.items) }
+    ensures { IfOk result (λ moved. IfSome moved (λ head. (b : AnyBoard) (s : AnySnake) → IsBoardBytes b board.now → HasGround b plane.old → SeesSnake s snake.now
+        → MovesSnake b given s head plane.old plane.new into.old.items into.new.items)) }
 {
     if snake.body.len() < 6 || snake.body.len() >= 131_000 || snake.id.len() > 255 {
-        return Ok(false);
+        return Ok(None);
     }
     let Some(step) = step_of(plane, board, snake, given) else {
-        return Ok(false);
+        return Ok(None);
     };
     if !step.head.is_on_board(board.width, board.height) || !count_step(plane, snake, step) {
-        return Ok(false);
+        return Ok(None);
     }
     push_stepped(into, snake, step)?;
-    Ok(true)
+    Ok(Some(step.head))
 }
 
-/// Moves all snakes of the record, counts their parts on the plane, and appends their new records.
-/// False if the turn is not one that the plane can follow: a snake is hurt, starves or leaves the
-/// board.
+/// Moves all snakes of the record, counts their parts on the plane, and appends their new records
+/// and the new heads of those that live. False if the turn is not one that the plane can follow: a
+/// snake is hurt, starves or leaves the board.
 pub fn move_snakes(
     plane: &mut Plane,
     board: &BoardBytes<'_>,
     moves: &Moves,
     into: &mut Vec<u8>,
+    heads: &mut Vec<Point>,
 ) -> Result<bool, AllocError>
     requires width { is_side board.now.width ≡ true }
     requires height { is_side board.now.height ≡ true }
     ensures { IfOk result (λ moved. IsTrue moved → (b : AnyBoard) → IsLegal b → IsBoardBytes b board.now → ShowsSnakes b b.snakes plane.old
-        → MovesSnakes (length b.snakes) b moves.now plane.new into.old.items into.new.items) }
+        → MovesSnakes (length b.snakes) b moves.now plane.new into.old.items into.new.items heads.old.items heads.new.items) }
 {
     let mut left = board.snakes;
     for _ in 0..board.seats {
         let (snake, rest) = split_snake(left);
         if snake.is_living() {
             let given = moves.direction_for(snake.id);
-            if !move_living(plane, board, &snake, given, into)? {
+            let Some(head) = move_living(plane, board, &snake, given, into)? else {
                 return Ok(false);
-            }
+            };
+            heads.push(head)?;
         } else {
             if rest.len() > left.len() {
                 return Ok(false);
@@ -280,33 +283,25 @@ pub fn move_snakes(
     Ok(true)
 }
 
-/// Whether the head is the only part on its cell.
+/// Whether one part is on the cell.
 #[inline(always)]
-fn is_alone(plane: &Plane, snake: &SnakeBytes<'_>) -> bool
-    ensures { IsTrue result → (s : AnySnake) → IsSnakeBytes s snake.now → All (IsByteCell 1) s.body
-        → (on : AnyPoint → AnyCell) → Shows on plane.now → (on (head_of s.body)).parts ≡ 1 }
+fn has_one_part(plane: &Plane, cell: Point) -> bool
+    ensures { IsTrue result → (on : AnyPoint → AnyCell) → Shows on plane.now → (on cell).parts ≡ 1 }
 {
-    if snake.body.len() < 2 {
-        return false;
-    }
-    match plane.at(snake.part(0)) {
+    match plane.at(cell) {
         None => false,
         Some(there) => there.parts == 1,
     }
 }
 
-/// Whether each living head of the records is the only part on its cell, so that no snake collides.
-pub fn are_alone(plane: &Plane, seats: usize, snakes: &[u8]) -> bool
-    ensures { IsTrue result → (list : List AnySnake) → length list ≡ seats → snakes.now ≡ flat_map snake_record list → All IsWritable list
-        → AreAlone list plane.now }
+/// Whether each of the heads is the only part on its cell, so that no snake collides.
+pub fn are_alone(plane: &Plane, heads: &[Point]) -> bool
+    ensures { IsTrue result → AreAlone heads.now plane.now }
 {
-    let mut left = snakes;
-    for _ in 0..seats {
-        let (snake, rest) = split_snake(left);
-        if snake.is_living() && !is_alone(plane, &snake) {
+    for head in heads {
+        if !has_one_part(plane, *head) {
             return false;
         }
-        left = rest;
     }
     true
 }

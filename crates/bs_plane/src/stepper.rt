@@ -14,7 +14,7 @@ use crate::motion::{are_alone, move_snakes};
 use crate::plane::Plane;
 use crate::writing::write_record;
 use bs_board::limits::{LAST_TURN, LONGEST_SIDE, MOST_SNAKES, SHORTEST_SIDE};
-use bs_board::{Board, BoardBytes, Hazards, Mode, Move, Record};
+use bs_board::{Board, BoardBytes, Hazards, Mode, Move, Point, Record};
 use std::alloc::{AllocError, Global};
 
 /// The food and the snakes of a record that is being made, and all its bytes.
@@ -22,6 +22,8 @@ use std::alloc::{AllocError, Global};
 pub struct Draft {
     pub food: Vec<u8>,
     pub snakes: Vec<u8>,
+    /// The heads of the living snakes.
+    pub heads: Vec<Point>,
     pub bytes: Vec<u8>,
 }
 
@@ -63,12 +65,12 @@ fn refill_food(
     plane: &mut Plane,
     board: &BoardBytes<'_>,
     words: &[u32],
-    snakes: &[u8],
+    heads: &[Point],
     food: &mut Vec<u8>,
 ) -> Result<bool, AllocError>
-    ensures { IfOk result (λ done. IsTrue done → Refills (λ b. spawned words.now b) board.now snakes.now plane.old food.old.items plane.new food.new.items) }
+    ensures { IfOk result (λ done. IsTrue done → Refills (λ b. spawned words.now b) board.now heads.now plane.old food.old.items plane.new food.new.items) }
 {
-    if !remove_eaten(plane, board.seats, snakes) {
+    if !remove_eaten(plane, heads) {
         return Ok(false);
     }
     if !keep_food(plane, board.food, food)? {
@@ -82,16 +84,16 @@ fn refill(
     plane: &mut Plane,
     board: &BoardBytes<'_>,
     words: &[u32],
-    snakes: &[u8],
+    heads: &[Point],
     food: &mut Vec<u8>,
 ) -> Result<bool, AllocError>
-    ensures { IfOk result (λ done. IsTrue done → Refills (λ b. refilled_in b.mode words.now b) board.now snakes.now plane.old food.old.items plane.new food.new.items) }
+    ensures { IfOk result (λ done. IsTrue done → Refills (λ b. refilled_in b.mode words.now b) board.now heads.now plane.old food.old.items plane.new food.new.items) }
 {
     match board.mode {
         Mode::Constrictor => Ok(board.food.is_empty()),
-        Mode::Standard => refill_food(plane, board, words, snakes, food),
-        Mode::Solo => refill_food(plane, board, words, snakes, food),
-        Mode::Wrapped => refill_food(plane, board, words, snakes, food),
+        Mode::Standard => refill_food(plane, board, words, heads, food),
+        Mode::Solo => refill_food(plane, board, words, heads, food),
+        Mode::Wrapped => refill_food(plane, board, words, heads, food),
     }
 }
 
@@ -106,18 +108,25 @@ fn play(
     ensures { IfOk result (λ done. IsTrue done → PlaysFrom board.now orders.now plane.old plane.new draft.new.bytes.items) }
 {
     draft.snakes.clear();
+    draft.heads.clear();
     draft.food.clear();
-    if !move_snakes(plane, board, &orders.moves, &mut draft.snakes)? {
+    if !move_snakes(
+        plane,
+        board,
+        &orders.moves,
+        &mut draft.snakes,
+        &mut draft.heads,
+    )? {
         return Ok(false);
     }
-    if !are_alone(plane, board.seats, &draft.snakes) {
+    if !are_alone(plane, &draft.heads) {
         return Ok(false);
     }
     if !refill(
         plane,
         board,
         orders.words.as_slice(),
-        &draft.snakes,
+        &draft.heads,
         &mut draft.food,
     )? {
         return Ok(false);
@@ -160,6 +169,7 @@ impl Stepper {
             draft: Draft {
                 food: Vec::new(alloc),
                 snakes: Vec::new(alloc),
+                heads: Vec::new(alloc),
                 bytes: Vec::new(alloc),
             },
         }

@@ -37,39 +37,49 @@ pub record IsTooLong (left : Option (List ℕ)) (named : Named) (name : List ℕ
   pub bytes : name ≡ codes "-" → IfSome left (λ bytes. MOST_FILE_BYTES < length bytes)
   pub other : name ≢ codes "-" → IfSome (named name) (λ bytes. MOST_FILE_BYTES < length bytes)
 
--- `-` cannot be read only if `failed`, and a file is too long only if it has more bytes than a file
--- may have
-abbrev pub IsReadFault : Type 0 → Option (List ℕ) → Named → List ℕ → ReadFault → Type 0
-IsReadFault failed left named name read.Device = name ≡ codes "-" → failed
-IsReadFault failed left named name read.TooLong = IsTooLong left named name
-IsReadFault failed left named name read.Memory = Unit {0}
+-- the names of the files of which a call that opens or reads them failed
+abbrev pub Unread : Type 1
+Unread = List ℕ → Type 0
+
+-- a call failed: of `-` one that reads the reader, of another name one that opens or reads the file
+-- of that name
+pub record IsUnread (failed : Type 0) (unread : Unread) (name : List ℕ) : Type 0 where
+  pub bytes : name ≡ codes "-" → failed
+  pub other : name ≢ codes "-" → ∥ unread name ∥₁
+
+-- a file cannot be read only if a call failed, and is too long only if it has more bytes than a
+-- file may have
+abbrev pub IsReadFault : Type 0 → Unread → Option (List ℕ) → Named → List ℕ → ReadFault → Type 0
+IsReadFault failed unread left named name read.Device = IsUnread failed unread name
+IsReadFault failed unread left named name read.TooLong = IsTooLong left named name
+IsReadFault failed unread left named name read.Memory = Unit {0}
 
 -- These bytes were appended to the output.
 abbrev pub Gains : {W : Type 0} → (W → Option (List ℕ)) → Output W → Output W → List ℕ → Type 0
 Gains contents old new = Appends (held_by contents old) (held_by contents new)
 
--- A file is served with `blocks` blocks: the whole transcript, flushed; or a fault of `serve`, what
--- it leaves, and its cause; or the whole transcript, and a flush that failed.
+-- A file is served with `blocks` blocks: the whole transcript, flushed; or a fault of `serve`, which
+-- is never `Broken`, what it leaves, and its cause; or the whole transcript, and a flush that failed.
 abbrev pub Serves : {W : Type 0} → (W → Option (List ℕ)) → ℕ → List ℕ → Output W → Output W → Answer → Type 0
 Serves contents blocks file old new (Ok done) =
     (refusal_of blocks file ≡ None) × Gains contents old new (transcript_of blocks file) × (new.is_flushed ≡ true)
 Serves contents blocks file old new (Err (Read fault)) = ⊥
 Serves contents blocks file old new (Err (Cut fault)) = ⊥
 Serves contents blocks file old new (Err (Serve fault)) =
-    IsFault (refusal_of blocks file) fault × Leaves (held_by contents) (transcript_of blocks file) old new fault × HasCause (new.has_failed ≡ true) fault
+    IsFault ⊥ (refusal_of blocks file) fault × Leaves (held_by contents) (transcript_of blocks file) old new fault × HasCause (new.has_failed ≡ true) fault
 Serves contents blocks file old new (Err (Live fault)) = ⊥
 Serves contents blocks file old new (Err Flush) =
     (refusal_of blocks file ≡ None) × Gains contents old new (transcript_of blocks file) × (new.has_failed ≡ true)
 
 -- `arena serve`: the file was not read, and nothing is written; or it is served.
-abbrev pub ServesFile : {W : Type 0} → (W → Option (List ℕ)) → Type 0 → Option (List ℕ) → Named → List ℕ → ℕ → Output W → Output W → Answer → Type 0
-ServesFile contents failed left named name blocks old new (Err (Read fault)) = IsReadFault failed left named name fault × (new ≡ old)
-ServesFile contents failed left named name blocks old new (Ok done) = (file : List ℕ) × IsInput left named name file × Serves contents blocks file old new (Ok done)
-ServesFile contents failed left named name blocks old new (Err (Cut fault)) = ⊥
-ServesFile contents failed left named name blocks old new (Err (Serve fault)) =
+abbrev pub ServesFile : {W : Type 0} → (W → Option (List ℕ)) → Type 0 → Unread → Option (List ℕ) → Named → List ℕ → ℕ → Output W → Output W → Answer → Type 0
+ServesFile contents failed unread left named name blocks old new (Err (Read fault)) = IsReadFault failed unread left named name fault × (new ≡ old)
+ServesFile contents failed unread left named name blocks old new (Ok done) = (file : List ℕ) × IsInput left named name file × Serves contents blocks file old new (Ok done)
+ServesFile contents failed unread left named name blocks old new (Err (Cut fault)) = ⊥
+ServesFile contents failed unread left named name blocks old new (Err (Serve fault)) =
     (file : List ℕ) × IsInput left named name file × Serves contents blocks file old new (Err (Serve fault))
-ServesFile contents failed left named name blocks old new (Err (Live fault)) = ⊥
-ServesFile contents failed left named name blocks old new (Err Flush) = (file : List ℕ) × IsInput left named name file × Serves contents blocks file old new (Err Flush)
+ServesFile contents failed unread left named name blocks old new (Err (Live fault)) = ⊥
+ServesFile contents failed unread left named name blocks old new (Err Flush) = (file : List ℕ) × IsInput left named name file × Serves contents blocks file old new (Err Flush)
 
 -- a game, and which of its stays
 pub record Wanted : Type 0 where
@@ -86,14 +96,14 @@ pub record PlaysStay {W : Type 0} (contents : W → Option (List ℕ)) (left : O
 
 -- `arena alone`: the file was not read, or cannot be cut to that stay, and nothing is written; or
 -- the stay's own lines are served.
-abbrev pub PlaysAlone : {W : Type 0} → (W → Option (List ℕ)) → Type 0 → Option (List ℕ) → Named → List ℕ → Wanted → ℕ → Output W → Output W → Answer → Type 0
-PlaysAlone contents failed left named name wanted blocks old new (Err (Read fault)) = IsReadFault failed left named name fault × (new ≡ old)
-PlaysAlone contents failed left named name wanted blocks old new (Err (Cut fault)) =
+abbrev pub PlaysAlone : {W : Type 0} → (W → Option (List ℕ)) → Type 0 → Unread → Option (List ℕ) → Named → List ℕ → Wanted → ℕ → Output W → Output W → Answer → Type 0
+PlaysAlone contents failed unread left named name wanted blocks old new (Err (Read fault)) = IsReadFault failed unread left named name fault × (new ≡ old)
+PlaysAlone contents failed unread left named name wanted blocks old new (Err (Cut fault)) =
     (file : List ℕ) × IsInput left named name file × IsCutRefusal (cut_refusal_of blocks file wanted.game wanted.nth) fault × (new ≡ old)
-PlaysAlone contents failed left named name wanted blocks old new (Ok done) = PlaysStay contents left named name wanted blocks old new (Ok done)
-PlaysAlone contents failed left named name wanted blocks old new (Err (Serve fault)) = PlaysStay contents left named name wanted blocks old new (Err (Serve fault))
-PlaysAlone contents failed left named name wanted blocks old new (Err (Live fault)) = ⊥
-PlaysAlone contents failed left named name wanted blocks old new (Err Flush) = PlaysStay contents left named name wanted blocks old new (Err Flush)
+PlaysAlone contents failed unread left named name wanted blocks old new (Ok done) = PlaysStay contents left named name wanted blocks old new (Ok done)
+PlaysAlone contents failed unread left named name wanted blocks old new (Err (Serve fault)) = PlaysStay contents left named name wanted blocks old new (Err (Serve fault))
+PlaysAlone contents failed unread left named name wanted blocks old new (Err (Live fault)) = ⊥
+PlaysAlone contents failed unread left named name wanted blocks old new (Err Flush) = PlaysStay contents left named name wanted blocks old new (Err Flush)
 
 -- `arena live`: the answers to all lines, flushed; or a fault of `serve_live`, what it leaves, and
 -- its cause; or all answers, and a last flush that failed. If the reader's bytes are not known,
@@ -110,11 +120,12 @@ ServesLive contents failed left blocks old new (Err (Live fault)) =
 ServesLive contents failed left blocks old new (Err Flush) =
     IfSome left (λ file. (live_refusal_of blocks file ≡ None) × Gains contents old new (live_of blocks file)) × (new.has_failed ≡ true)
 
--- the request is done; `failed` says that a call of the reader failed
-abbrev pub Does : {W : Type 0} → (W → Option (List ℕ)) → Type 0 → Option (List ℕ) → Named → Asked → Output W → Output W → Answer → Type 0
-Does contents failed left named (serve name blocks workers) = ServesFile contents failed left named name blocks
-Does contents failed left named (alone name game nth blocks) = PlaysAlone contents failed left named name (record { game = game; nth = nth }) blocks
-Does contents failed left named (live blocks) = ServesLive contents failed left blocks
+-- the request is done; `failed` says that a call of the reader failed, and `unread` that one of a
+-- named file did
+abbrev pub Does : {W : Type 0} → (W → Option (List ℕ)) → Type 0 → Unread → Option (List ℕ) → Named → Asked → Output W → Output W → Answer → Type 0
+Does contents failed unread left named (serve name blocks workers) = ServesFile contents failed unread left named name blocks
+Does contents failed unread left named (alone name game nth blocks) = PlaysAlone contents failed unread left named name (record { game = game; nth = nth }) blocks
+Does contents failed unread left named (live blocks) = ServesLive contents failed left blocks
 
 -- The status and the line.
 -- The text was written, unless the writer failed at some call.

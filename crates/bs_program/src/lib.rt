@@ -4,6 +4,7 @@
 
 mod failure;
 mod input;
+mod opened;
 mod reason;
 mod recorded;
 mod report;

@@ -7,16 +7,16 @@ ghost use Rattle.bs_program.specs.inner.Outcome.{Finishes};
 
 use crate::failure::Failure;
 use crate::input::Input;
+use crate::opened::read_named;
 use crate::recorded::Recorded;
 use crate::request::{Request, STANDARD_INPUT, Serving, Solo};
 use crate::source::Sources;
 use crate::stream::Output;
-use bs_host::{ReadFault, cut, read_input, read_input_by, serve_by, serve_live_by};
+use bs_host::{ReadFault, cut, read_input_by, serve_by, serve_live_by};
 use bs_workers::OpenGate;
 use std::alloc::Global;
-use std::io::{self, Read, Write};
+use std::io::{Read, Write};
 use std::mem;
-use std::sync::Wait;
 use std::thread::Threads;
 
 /// The number of workers of `arena alone`.
@@ -37,19 +37,12 @@ fn read_file<S: Sources, R: Read>(
     input: &mut Input<R>,
 ) -> Result<Vec<u8>, ReadFault>
     ensures bytes { IfOk result (λ bytes. IsInput (left_in R.remaining input.old) (S.named rt.now) name.now bytes.items) }
-    ensures fault { IfErr result (IsReadFault (HasReadFailed input.new) (left_in R.remaining input.old) (S.named rt.now) name.now) }
+    ensures fault { IfErr result (IsReadFault (HasReadFailed input.new) (S.unread rt.now) (left_in R.remaining input.old) (S.named rt.now) name.now) }
 {
     if name == STANDARD_INPUT {
         return read_input_by::<Input<R>, Recorded>(alloc, input);
     }
-    match rt.open(name) {
-        Ok(mut opened) => read_input(alloc, &mut opened),
-        Err(error) => Err(if error.kind() == io::ErrorKind::OutOfMemory {
-            ReadFault::Memory
-        } else {
-            ReadFault::Device
-        }),
-    }
+    read_named(rt, alloc, name)
 }
 
 /// Flushes the output.
@@ -61,7 +54,7 @@ fn finish<W: Write>(output: &mut Output<W>) -> Result<(), Failure>
 
 /// Writes the transcript of a file, then flushes the output. The core is left to the system, which
 /// frees its memory at once when the program ends; after a fault it is dropped.
-fn serve_bytes<H: Threads + Wait + Sync, W: Write>(
+fn serve_bytes<H: Threads + Sync, W: Write>(
     rt: &H,
     alloc: Global,
     bytes: &[u8],
@@ -85,14 +78,14 @@ fn serve_bytes<H: Threads + Wait + Sync, W: Write>(
 }
 
 /// Serves a file whole.
-fn serve_file<H: Sources + Threads + Wait + Sync, R: Read, W: Write>(
+fn serve_file<H: Sources + Threads + Sync, R: Read, W: Write>(
     rt: &H,
     alloc: Global,
     request: Serving<'_>,
     input: &mut Input<R>,
     output: &mut Output<W>,
 ) -> Result<(), Failure>
-    ensures { ServesFile W.contents (HasReadFailed input.new) (left_in R.remaining input.old) (H.named rt.now) request.entry.file.now request.entry.blocks output.old output.new result }
+    ensures { ServesFile W.contents (HasReadFailed input.new) (H.unread rt.now) (left_in R.remaining input.old) (H.named rt.now) request.entry.file.now request.entry.blocks output.old output.new result }
 {
     let bytes = read_file(rt, alloc, request.file, input).map_err(Failure::Read)?;
     let with = Resources {
@@ -103,14 +96,14 @@ fn serve_file<H: Sources + Threads + Wait + Sync, R: Read, W: Write>(
 }
 
 /// Serves one stay's own lines of a file.
-fn play_alone<H: Sources + Threads + Wait + Sync, R: Read, W: Write>(
+fn play_alone<H: Sources + Threads + Sync, R: Read, W: Write>(
     rt: &H,
     alloc: Global,
     request: Solo<'_>,
     input: &mut Input<R>,
     output: &mut Output<W>,
 ) -> Result<(), Failure>
-    ensures { PlaysAlone W.contents (HasReadFailed input.new) (left_in R.remaining input.old) (H.named rt.now) request.entry.file.now (record { game = request.entry.game.now; nth = request.entry.stay }) request.entry.blocks output.old output.new result }
+    ensures { PlaysAlone W.contents (HasReadFailed input.new) (H.unread rt.now) (left_in R.remaining input.old) (H.named rt.now) request.entry.file.now (record { game = request.entry.game.now; nth = request.entry.stay }) request.entry.blocks output.old output.new result }
 {
     let bytes = read_file(rt, alloc, request.file, input).map_err(Failure::Read)?;
     let blocks = usize::from(request.blocks);
@@ -139,14 +132,14 @@ fn play_live<R: Read, W: Write>(
 }
 
 /// Does what is asked for. Output that is written is flushed at the end.
-pub fn run_request<H: Sources + Threads + Wait + Sync, R: Read, W: Write>(
+pub fn run_request<H: Sources + Threads + Sync, R: Read, W: Write>(
     rt: &H,
     alloc: Global,
     request: Request<'_>,
     input: &mut Input<R>,
     output: &mut Output<W>,
 ) -> Result<(), Failure>
-    ensures { Does W.contents (HasReadFailed input.new) (left_in R.remaining input.old) (H.named rt.now) (asked_for request.entry) output.old output.new result }
+    ensures { Does W.contents (HasReadFailed input.new) (H.unread rt.now) (left_in R.remaining input.old) (H.named rt.now) (asked_for request.entry) output.old output.new result }
 {
     match request {
         Request::Serve(request) => serve_file(rt, alloc, request, input, output),

@@ -9,7 +9,6 @@ use bs_fiber::SharedCommand;
 use bs_sched::Core;
 use bs_workers::{Act, OpenGate, run_any};
 use std::alloc::Global;
-use std::sync::Wait;
 use std::test::Fail;
 use std::thread::Threads;
 
@@ -92,11 +91,7 @@ pub struct RunSeen {
 }
 
 /// `run_any`, on two threads with a game each, `Journal::to_vec` and `Journal::into_vec`.
-fn run_both<R: Threads + Wait + Sync>(
-    rt: &R,
-    alloc: Global,
-    acts: &[Act],
-) -> Result<RunSeen, Fault> {
+fn run_both<R: Threads + Sync>(rt: &R, alloc: Global, acts: &[Act]) -> Result<RunSeen, Fault> {
     let core = Core::<CAP>::open(alloc, plan_of(alloc, &NAMES)?, 12, WORKERS)?;
     let core = run_any(rt, alloc, core, acts, 2, &OpenGate)?;
     Ok(RunSeen {
@@ -107,11 +102,7 @@ fn run_both<R: Threads + Wait + Sync>(
 }
 
 /// Makes the run, and repeats it if it reported that memory ran out.
-fn tried_run<R: Threads + Wait + Sync>(
-    rt: &R,
-    page: &mut Page,
-    acts: &[Act],
-) -> Result<RunSeen, Fault> {
+fn tried_run<R: Threads + Sync>(rt: &R, page: &mut Page, acts: &[Act]) -> Result<RunSeen, Fault> {
     page.line("before", &acts.len());
     page.begin();
     let first = run_both(rt, page.alloc(), acts);
@@ -138,7 +129,7 @@ fn acts_of_both(alloc: Global) -> Result<Vec<Act>, Fail> {
 }
 
 /// `run_any` of two games apart, and the events of the core as one list.
-pub fn play_apart<R: Threads + Wait + Sync>(rt: &R, page: &mut Page) -> Result<(), Fail> {
+pub fn play_apart<R: Threads + Sync>(rt: &R, page: &mut Page) -> Result<(), Fail> {
     let acts = acts_of_both(page.alloc())?;
     let core = tried_run(rt, page, acts.as_slice())?;
     page.line("answer", &core);

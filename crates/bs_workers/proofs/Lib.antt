@@ -1,8 +1,11 @@
 pub mod AcceptableActs
 pub mod Acted
 pub mod Calm
-pub mod Compared
+pub mod Ended
+pub mod GoneOn
 pub mod MadeActs
 pub mod Played
+pub mod Repeated
 pub mod RunAlone
 pub mod Sizes
+pub mod Stops

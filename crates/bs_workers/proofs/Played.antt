@@ -6,17 +6,17 @@ use Rattle.std.proofs.lemmas.Bool.{cases_Bool, cases_lt, ltb-true, ne_eqb}
 use Rattle.std.proofs.lemmas.Bool.Decides.{eqb_tells}
 use Rattle.std.proofs.lemmas.List.{append_assoc, append-nil, get_or-map, get_or_default, get_or_append_left, get_or_push, length-append, length-map, length-set, get_or-set_other, map-append, take_more}
 use Rattle.std.proofs.lemmas.Grind.{get_or-set_at}
-use Rattle.std.proofs.lemmas.List.Elements.{All-nil, All-append, All-cons, All-drop, All-take, filter_map-append}
+use Rattle.std.proofs.lemmas.List.Elements.{All-nil, All-append, All-cons, All-push, All-drop, All-take, filter_map-append}
 use Rattle.bs_sched.specs.Assembly.{AreQueuedFirst, Hand, IsJob, IsQueuedFirst, assembled_journal, commands_for, core_at, hand_event, jobs_at, jobs_from}
 use Rattle.bs_sched.specs.Core.{CoreView, opened_core}
 use Rattle.bs_sched.specs.declared.event.Event.{Event}
 use Rattle.bs_sched.specs.declared.event.Event.TheVariants as event
 use Rattle.bs_workers.specs.declared.act.Act.{Act}
+use Rattle.bs_workers.specs.declared.apart.Lone.{Lone}
 use Rattle.bs_workers.specs.declared.act.Act.TheVariants as act
 use Rattle.bs_workers.specs.Acts.{command_in}
 use Rattle.bs_workers.specs.Run.{acts_of}
-use Rattle.bs_workers.specs.inner.Apart.{ArePlayed, AreQueuedIn, HavePlaces, HaveRows, IsPlayed, QueuesIn, acts_at, hand_of, hands_of, placed, row_in}
-use Rattle.bs_workers.specs.inner.Making.{Makes}
+use Rattle.bs_workers.specs.inner.Apart.{ArePlayed, AreQueuedIn, GoesOn, HavePlaces, HaveRows, IsPlayed, QueuesIn, acts_at, hand_of, hands_of, placed, row_in}
 use Rattle.bs_workers.proofs.Acted.{acts_append}
 
 -- the commands of one row, queued one after the other
@@ -104,7 +104,7 @@ one_placed acts order i old new less have is before =
     ]
 
 -- events that make no act are jobs
-are_jobs : (events : List Event) → acts_of events ≡ [] → All IsJob events
+pub are_jobs : (events : List Event) → acts_of events ≡ [] → All IsJob events
 are_jobs [] none = All-nil IsJob
 are_jobs (event.Hand game command ∷ events) none = absurd cc
 are_jobs (event.Take worker job ∷ events) none = All-cons IsJob (event.Take worker job) events tt (are_jobs events none)
@@ -112,21 +112,34 @@ are_jobs (event.Put worker job ∷ events) none = All-cons IsJob (event.Put work
 are_jobs (event.Admit row ∷ events) none = absurd cc
 are_jobs (event.Leave game ∷ events) none = absurd cc
 
-pub played : (acts : List Act) (places : List (List ℕ)) (row : ℕ) (list : List ℕ) (old between new : CoreView) → old.journal ≡ [] → row < length places
-    → list ≡ slice_index_or places row []
-    → between.journal ≡ old.journal ++ map (event.Hand 0) (filter_map (command_in row) (acts_at acts list)) → Makes [] between new
-    → IsPlayed acts places row new
-played acts places row list old between new empty within is queued made =
+-- the commands of the row are queued, and jobs follow
+pub played_on : (acts : List Act) (places : List (List ℕ)) (row : ℕ) (between new : CoreView)
+    → (row < length places) × (between.journal ≡ map (event.Hand 0) (filter_map (command_in row) (acts_at acts (slice_index_or places row []))))
+    → GoesOn between new → IsPlayed acts places row new
+played_on acts places row between new queued on =
     λ have.
-    let hands = map (event.Hand 0) (filter_map (command_in row) acts) in
-    let same : filter_map (command_in row) (acts_at acts list) ≡ filter_map (command_in row) acts
-    = ap (λ list. filter_map (command_in row) (acts_at acts list)) is ∙ have row within in
+    let same : filter_map (command_in row) (acts_at acts (slice_index_or places row [])) ≡ filter_map (command_in row) acts = have row queued.0 in
     record {
-      jobs = made.added;
-      journal_is = made.journal ∙ ap (λ (events : List Event). events ++ made.added)
-          (queued ∙ ap (λ commands. old.journal ++ map (event.Hand 0) commands) same ∙ ap (λ (events : List Event). events ++ hands) empty);
-      are_jobs = are_jobs made.added made.acted;
+      jobs = on.jobs;
+      journal_is = on.journal ∙ ap (λ (events : List Event). events ++ on.jobs) (queued.1 ∙ ap (map (event.Hand 0)) same);
+      are_jobs = on.are_jobs;
     }
+
+-- rows that were played, and more of them
+
+pub played_push : {cap : ℕ} (acts : List Act) (places : List (List ℕ)) (ran more : List (Lone cap)) (lone : Lone cap) → more ≡ ran ++ lone ∷ []
+    → All (λ lone. IsPlayed acts places lone.row lone.core) ran → IsPlayed acts places lone.row lone.core
+    → All (λ lone. IsPlayed acts places lone.row lone.core) more
+played_push acts places ran more lone is all one =
+    let P : Lone _ → Type 0 = λ lone. IsPlayed acts places lone.row lone.core in
+    subst (All P) (sym is) (All-push P ran lone all one)
+
+pub played_append : {cap : ℕ} (acts : List Act) (places : List (List ℕ)) (ran more all : List (Lone cap)) → all ≡ ran ++ more
+    → All (λ lone. IsPlayed acts places lone.row lone.core) ran → All (λ lone. IsPlayed acts places lone.row lone.core) more
+    → All (λ lone. IsPlayed acts places lone.row lone.core) all
+played_append acts places ran more all is first second =
+    let P : Lone _ → Type 0 = λ lone. IsPlayed acts places lone.row lone.core in
+    subst (All P) (sym is) (All-append P ran more first second)
 
 -- the commands of all rows, one after the other
 

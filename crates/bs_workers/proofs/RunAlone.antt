@@ -14,7 +14,7 @@ use Rattle.bs_workers.specs.Acts.{are_acceptable, capacity_of_core, opened}
 use Rattle.bs_workers.specs.Run.{IsRunOf, acts_of}
 use Rattle.bs_workers.specs.inner.Making.{AreIdle, AreNext, IsCalm, Makes}
 use Rattle.bs_workers.proofs.Calm.{all_quiet, each_quiet, opened_idle}
-use Rattle.bs_workers.proofs.Compared.{run_made}
+use Rattle.bs_workers.proofs.Ended.{run_made}
 use Rattle.bs_workers.proofs.MadeActs.{made_since_opened}
 
 pub calm_opened : (cap blocks workers : ℕ) (rows : List GameRow) (core : CoreView) → core ≡ opened_core cap blocks workers rows → IsCalm core

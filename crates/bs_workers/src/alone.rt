@@ -10,9 +10,9 @@ ghost use Rattle.bs_sched.specs.Machine.{is_enabled};
 ghost use Rattle.bs_sched.specs.declared.event.Event.TheVariants as event;
 ghost use Rattle.bs_workers.specs.Acceptable.{MayBeMade};
 ghost use Rattle.bs_workers.specs.Acts.{are_acceptable, capacity_of_core, command_in, opened};
-ghost use Rattle.bs_workers.specs.inner.Causes.{IsCause};
+ghost use Rattle.bs_workers.specs.Causes.{IsCause};
 ghost use Rattle.bs_workers.specs.Run.{IsRunOf};
-ghost use Rattle.bs_workers.specs.inner.Apart.{IsPlayed, acts_at};
+ghost use Rattle.bs_workers.specs.inner.Apart.{acts_at};
 ghost use Rattle.bs_workers.specs.inner.Faults.{refused_fault};
 ghost use Rattle.bs_workers.specs.inner.Making.{AreNext, IsCalm, IsNext, Makes, waiting_in};
 ghost use Rattle.bs_workers.specs.declared.act.Act.TheVariants as act;
@@ -20,7 +20,6 @@ ghost use Rattle.bs_workers.specs.declared.act.Act.TheVariants as act;
 use crate::act::Act;
 use crate::fault::Run;
 use crate::gate::Gate;
-use crate::places::Places;
 use bs_board::Row;
 use bs_fiber::{Handles, JobKind, JobName};
 use bs_sched::{Admit, Core, Leave, NextCommand};
@@ -140,11 +139,8 @@ impl<const CAP: usize, G: Gate> Alone<'_, CAP, G> {
         ensures gate { self.new.gate ≡ self.old.gate }
         ensures cause { IfErr result (IsCause (G.may_refuse self.old.gate.now)) }
     {
-        'commands: loop {
-            if !self.step()? {
-                return Ok(());
-            }
-        }
+        'commands: while self.step()? {}
+        Ok(())
     }
 
     /// Queues the command for the game of that row. `Broken` if the stay is not open.
@@ -273,29 +269,6 @@ impl<const CAP: usize, G: Gate> Alone<'_, CAP, G> {
         }
     }
 
-    /// Queues the commands for that row of the run in the core's row 0, and answers them. `places`
-    /// has the places of each row's commands: acts of other rows are not read. A core that has an
-    /// event, or too few workers, is `Broken`.
-    pub(crate) fn play(
-        mut self,
-        row: usize,
-        acts: &[Act],
-        places: &[Places],
-    ) -> Result<Core<CAP>, Run>
-        ensures { IfOk result (λ core. IsPlayed acts.now places.now row core) }
-    {
-        if !self.is_new() || row >= places.len() {
-            return Err(Run::Broken);
-        }
-        self.queue(row, acts, places[row].as_slice())?;
-        if self.worker > self.core.workers() {
-            return Err(Run::Broken);
-        }
-        self.answer_all()?;
-        let Alone { core, .. } = self;
-        Ok(core)
-    }
-
     /// Makes the acts in order, and answers all commands.
     #[tactic(auto, using(crate::proofs::MadeActs::makes_none, crate::proofs::MadeActs::makes_next, crate::proofs::MadeActs::makes_all))]
     fn make_all(&mut self, acts: &[Act]) -> Result<(), Run>
@@ -314,7 +287,7 @@ impl<const CAP: usize, G: Gate> Alone<'_, CAP, G> {
 }
 
 /// Does nothing. Gives the prover the stays of a core, which its journal determines.
-fn keeps_apart<const CAP: usize>(core: &Core<CAP>)
+pub(crate) fn keeps_apart<const CAP: usize>(core: &Core<CAP>)
     ensures { KeepsApart CAP core.now }
 {
     let _journal = core.journal();

@@ -1,26 +1,33 @@
 //! Games run apart: each row in a core of its own, without a lock on it. A thread takes one row
 //! after the other, so that no thread is idle while rows are left. Then the cores are put together.
-ghost use Rattle.std.specs.Prelude.{◌≡◌, ◌+◌, ◌≤◌, ◌++◌, ◌∷◌, [], All, IfOk, OnOk, length};
+ghost use Rattle.std.specs.Prelude.{◌≡◌, ◌≢◌, ◌+◌, ◌<◌, ◌≤◌, ◌++◌, ◌∷◌, [], All, IfErr, IfOk, OnOk, length, map, slice_index_or};
+ghost use Rattle.std.specs.List.{filter_map};
 ghost use Rattle.bs_board.specs.declared.limits.TheConstants.{MOST_ROWS};
 ghost use Rattle.bs_pool.specs.Ledger.{size};
 ghost use Rattle.bs_registry.specs.Blocks.{blocks_of_all};
 ghost use Rattle.bs_sched.specs.Assembly.{setting_with};
-ghost use Rattle.bs_sched.specs.Core.{opened_core};
+ghost use Rattle.bs_sched.specs.Core.{CoreView};
+ghost use Rattle.bs_sched.specs.declared.event.Event.TheVariants as event;
 ghost use Rattle.bs_sched.specs.SharedMemory.{IsHosted};
 ghost use Rattle.bs_sched.specs.declared.cores.TheConstants.{MOST_WORKERS};
-ghost use Rattle.bs_workers.specs.Run.{IsRunOf, acts_of};
-ghost use Rattle.bs_workers.specs.inner.Apart.{ArePlayed, AreQueuedIn, HavePlaces, IsPlayed, QueuesIn};
+ghost use Rattle.bs_workers.specs.Acts.{command_in};
+ghost use Rattle.bs_workers.specs.Run.{IsRunOf};
+ghost use Rattle.bs_workers.specs.inner.Apart.{ArePlayed, AreQueuedIn, GoesOn, HavePlaces, IsPlayed, IsPutTogether, QueuesIn, acts_at};
+ghost use Rattle.bs_workers.specs.inner.Stops.{IsStopCause};
+ghost use Rattle.bs_workers.specs.declared.stop.Stop.TheVariants as reason;
 
-use crate::act::Act;
-use crate::alone::Alone;
-use crate::compare::{copy_rows, has_ended_run};
+use crate::act::{Act, only_mover};
+use crate::alone::{Alone, keeps_apart};
 use crate::fault::Run;
 use crate::gate::Gate;
 use crate::places::{Places, places_of};
+use crate::stop::Stop;
+use crate::together::Together;
 use bs_sched::{Core, Shared};
 use std::alloc::{AllocError, Global};
-use std::sync::{Mutex, Wait};
-use std::thread::{Threads, map_vec};
+use std::sync::Mutex;
+use std::sync::atomic::{AtomicU64, Ordering};
+use std::thread::{Threads, map_indices};
 
 /// A row, and the core of that row alone.
 #[derive(Drop)]
@@ -29,16 +36,33 @@ struct Lone<const CAP: usize> {
     core: Core<CAP>,
 }
 
-/// The rows that no thread has taken yet, the last one first.
+/// The cores that no thread has taken yet, each at the place of its row.
 #[derive(Drop)]
 struct Waiting<const CAP: usize> {
-    rows: Mutex<Vec<Lone<CAP>>>,
+    slots: Vec<Mutex<Option<Core<CAP>>>>,
+    /// The first row that no thread has asked for.
+    next: AtomicU64,
+    /// The row that is left to the caller.
+    mover: Option<usize>,
 }
 
 impl<const CAP: usize> Waiting<CAP> {
-    /// Takes the first row, if there is one.
-    fn take<R: Wait>(&self, rt: &R) -> Option<Lone<CAP>> {
-        self.rows.lock(rt).pop()
+    /// The next row that is not left to the caller. Each is returned once.
+    fn next_row(&self) -> usize {
+        let row = self.next.fetch_add(1, Ordering::SeqCst) as usize;
+        if self.mover == Some(row) {
+            self.next.fetch_add(1, Ordering::SeqCst) as usize
+        } else {
+            row
+        }
+    }
+
+    /// Takes the core of the next row, if there is one.
+    fn take(&self) -> Option<Lone<CAP>> {
+        let row = self.next_row();
+        let mut slot = self.slots.get(row)?.try_lock()?;
+        let core = slot.take()?;
+        Some(Lone { row, core })
     }
 }
 
@@ -54,19 +78,20 @@ struct Apart<'a, R, G> {
 }
 
 /// The row that the act queues a command for, one of `rows`. `Broken` if it queues none.
-fn row_of(act: &Act, rows: usize) -> Result<u32, Run>
+fn row_of(act: &Act, rows: usize) -> Result<u32, Stop>
     requires { rows ≤ MOST_ROWS }
-    ensures { IfOk result (λ row. QueuesIn rows row act.now) }
+    ensures queues { IfOk result (λ row. QueuesIn rows row act.now) }
+    ensures cause { IfErr result (λ stop. stop ≢ reason.Refused) }
 {
     match act {
         Act::Hand(stay, _) => {
             if *stay >= rows {
-                return Err(Run::Broken);
+                return Err(Stop::Failed);
             }
             Ok(*stay as u32)
         }
-        Act::Admit(_) => Err(Run::Broken),
-        Act::Leave(_) => Err(Run::Broken),
+        Act::Admit(_) => Err(Stop::Failed),
+        Act::Leave(_) => Err(Stop::Failed),
     }
 }
 
@@ -78,9 +103,10 @@ fn put_row(order: &mut Vec<u32>, row: u32) -> Result<(), AllocError>
 
 /// The row of each act's command, in order.
 #[tactic(auto, using(crate::proofs::Played::none_queued, crate::proofs::Played::queued_next))]
-fn order_of(alloc: Global, acts: &[Act], rows: usize) -> Result<Vec<u32>, Run>
+fn order_of(alloc: Global, acts: &[Act], rows: usize) -> Result<Vec<u32>, Stop>
     requires { rows ≤ MOST_ROWS }
-    ensures { IfOk result (λ order. AreQueuedIn rows acts.now order.items) }
+    ensures queued { IfOk result (λ order. AreQueuedIn rows acts.now order.items) }
+    ensures cause { IfErr result (λ stop. stop ≢ reason.Refused) }
 {
     let mut order = Vec::with_capacity(alloc, acts.len())?;
     for act in acts {
@@ -110,28 +136,16 @@ fn append_lones<const CAP: usize>(
     all.append(&mut ran)
 }
 
-/// Each core with its row, the last row first.
-fn lone_cores<const CAP: usize>(
+/// A slot for each core, in their order.
+fn slots_of<const CAP: usize>(
     alloc: Global,
     mut cores: Vec<Core<CAP>>,
-) -> Result<Vec<Lone<CAP>>, AllocError> {
-    let mut waiting = Vec::with_capacity(alloc, cores.len())?;
-    for _ in 0..cores.len() {
-        if let Some(core) = cores.pop() {
-            let row = cores.len();
-            waiting.push(Lone { row, core })?;
-        }
+) -> Result<Vec<Mutex<Option<Core<CAP>>>>, AllocError> {
+    let mut slots = Vec::with_capacity(alloc, cores.len())?;
+    for core in cores.drain(..) {
+        slots.push(Mutex::new(Some(core)))?;
     }
-    Ok(waiting)
-}
-
-/// The numbers of the threads.
-fn thread_numbers(alloc: Global, threads: usize) -> Result<Vec<usize>, AllocError> {
-    let mut numbers = Vec::with_capacity(alloc, threads)?;
-    for thread in 0..threads {
-        numbers.push(thread)?;
-    }
-    Ok(numbers)
+    Ok(slots)
 }
 
 /// The place of that row, or the list's length if it is not there.
@@ -141,25 +155,100 @@ fn place_of<const CAP: usize>(ran: &[Lone<CAP>], row: usize) -> usize {
         .unwrap_or(ran.len())
 }
 
-impl<R: Threads + Wait + Sync, G: Gate> Apart<'_, R, G> {
-    /// Runs the commands for the row in its core.
-    fn run_row<const CAP: usize>(&self, thread: usize, lone: Lone<CAP>) -> Result<Lone<CAP>, Run>
-        ensures { IfOk result (λ lone. IsPlayed self.now.acts.now self.now.places.now lone.row lone.core) }
+impl<R: Threads + Sync, G: Gate> Apart<'_, R, G> {
+    /// Queues the commands for that row of the run in its core. A core that has an event is
+    /// `Failed`.
+    fn queue<const CAP: usize>(&self, row: usize, core: Core<CAP>) -> Result<Core<CAP>, Stop>
+        ensures journal { IfOk result (λ core. (row < length self.now.places.now) × (core.journal
+            ≡ map (event.Hand 0) (filter_map (command_in row) (acts_at self.now.acts.now (slice_index_or self.now.places.now row []))))) }
+        ensures cause { IfErr result (IsStopCause (G.may_refuse self.now.gate.now)) }
     {
-        let Lone { row, core } = lone;
-        let Ok(first) = u32::try_from(row) else {
-            return Err(Run::Broken);
-        };
-        let alone = Alone {
+        let mut alone = Alone {
             alloc: self.alloc,
             core,
-            first,
-            thread,
-            worker: thread,
+            first: 0,
+            thread: 0,
+            worker: 0,
             gate: self.gate,
         };
-        let core = alone.play(row, self.acts, self.places)?;
-        Ok(Lone { row, core })
+        if !alone.is_new() || row >= self.places.len() {
+            return Err(Stop::Failed);
+        }
+        match alone.queue(row, self.acts, self.places[row].as_slice()) {
+            Ok(()) => {
+                let Alone { core, .. } = alone;
+                Ok(core)
+            }
+            Err(Run::Memory) => Err(Stop::Memory),
+            Err(Run::Broken) => Err(Stop::Failed),
+        }
+    }
+
+    /// Answers the commands that are queued in the core of that row, as the thread of that number.
+    /// `threads` threads share its moves.
+    fn answer<const CAP: usize>(
+        &self,
+        thread: usize,
+        threads: usize,
+        row: u32,
+        core: Core<CAP>,
+    ) -> Result<Core<CAP>, Stop>
+        ensures made { IfOk result (λ new. GoesOn core.entry new) }
+        ensures cause { IfErr result (IsStopCause (G.may_refuse self.now.gate.now)) }
+    {
+        if thread > core.workers() {
+            return Err(Stop::Failed);
+        }
+        let mut together = Together {
+            rt: self.rt,
+            alone: Alone {
+                alloc: self.alloc,
+                core,
+                first: row,
+                thread,
+                worker: thread,
+                gate: self.gate,
+            },
+            threads,
+            games: 0,
+        };
+        together.answer_all(self.acts.len())?;
+        let Together { alone, .. } = together;
+        let Alone { core, .. } = alone;
+        Ok(core)
+    }
+
+    /// Queues the commands for the row in its core and answers them, as the thread of that number.
+    /// `threads` threads share its moves.
+    #[tactic(auto, using(crate::proofs::Played::played_on))]
+    fn run_row<const CAP: usize>(
+        &self,
+        thread: usize,
+        threads: usize,
+        row: usize,
+        core: Core<CAP>,
+    ) -> Result<Core<CAP>, Stop>
+        ensures played { IfOk result (λ core. IsPlayed self.now.acts.now self.now.places.now row core) }
+        ensures cause { IfErr result (IsStopCause (G.may_refuse self.now.gate.now)) }
+    {
+        let Ok(first) = u32::try_from(row) else {
+            return Err(Stop::Failed);
+        };
+        let core = self.queue(row, core)?;
+        Ok(self.answer(thread, threads, first, core)?)
+    }
+
+    /// Adds a row that was run.
+    fn add<const CAP: usize>(
+        &self,
+        ran: &mut Vec<Lone<CAP>>,
+        lone: Lone<CAP>,
+    ) -> Result<(), AllocError>
+        requires before { All (λ lone. IsPlayed self.now.acts.now self.now.places.now lone.row lone.core) ran.old.items }
+        requires played { IsPlayed self.now.acts.now self.now.places.now lone.row lone.core }
+        ensures { OnOk result (All (λ lone. IsPlayed self.now.acts.now self.now.places.now lone.row lone.core) ran.new.items) }
+    {
+        Ok(put_lone(ran, lone)?)
     }
 
     /// Runs rows as the thread of that number until none is left.
@@ -167,78 +256,154 @@ impl<R: Threads + Wait + Sync, G: Gate> Apart<'_, R, G> {
         &self,
         waiting: &Waiting<CAP>,
         thread: usize,
-    ) -> Result<Vec<Lone<CAP>>, Run>
-        ensures { IfOk result (λ ran. All (λ lone. IsPlayed self.now.acts.now self.now.places.now lone.row lone.core) ran.items) }
+    ) -> Result<Vec<Lone<CAP>>, Stop>
+        ensures played { IfOk result (λ ran. All (λ lone. IsPlayed self.now.acts.now self.now.places.now lone.row lone.core) ran.items) }
+        ensures cause { IfErr result (IsStopCause (G.may_refuse self.now.gate.now)) }
     {
         let mut ran = Vec::new(self.alloc);
         for _ in 0..self.places.len() {
-            match waiting.take(self.rt) {
-                Some(lone) => put_lone(&mut ran, self.run_row(thread, lone)?)?,
-                None => break,
-            }
+            let Some(lone) = waiting.take() else {
+                break;
+            };
+            let Lone { row, core } = lone;
+            let core = self.run_row(thread, 1, row, core)?;
+            self.add(&mut ran, Lone { row, core })?;
         }
         Ok(ran)
     }
 
-    /// The rows of all threads. `Memory` comes before any other fault.
+    /// The rows of all threads. If several stopped, one reason is kept.
+    #[tactic(auto, using(crate::proofs::Stops::kept_cause))]
     fn join_rows<const CAP: usize>(
         &self,
-        mut rows: Vec<Result<Vec<Lone<CAP>>, Run>>,
-    ) -> Result<Vec<Lone<CAP>>, Run>
-        requires { All (λ some. IfOk some (λ ran. All (λ lone. IsPlayed self.now.acts.now self.now.places.now lone.row lone.core) ran.items)) rows.items }
-        ensures { IfOk result (λ ran. All (λ lone. IsPlayed self.now.acts.now self.now.places.now lone.row lone.core) ran.items) }
+        mut rows: Vec<Result<Vec<Lone<CAP>>, Stop>>,
+    ) -> Result<Vec<Lone<CAP>>, Stop>
+        requires { All (λ some. IfOk some (λ ran. All (λ lone. IsPlayed self.now.acts.now self.now.places.now lone.row lone.core) ran.items)
+            × IfErr some (IsStopCause (G.may_refuse self.now.gate.now))) rows.items }
+        ensures played { IfOk result (λ ran. All (λ lone. IsPlayed self.now.acts.now self.now.places.now lone.row lone.core) ran.items) }
+        ensures cause { IfErr result (IsStopCause (G.may_refuse self.now.gate.now)) }
     {
         let mut all = Vec::new(self.alloc);
-        let mut fault = None;
+        let mut stopped = None;
         for _ in 0..rows.len() {
             match rows.pop() {
                 Some(Ok(ran)) => append_lones(&mut all, ran)?,
-                Some(Err(run)) => fault = Some(run.after(fault)),
+                Some(Err(stop)) => stopped = Some(stop.after(stopped)),
                 None => {}
             }
         }
-        match fault {
-            Some(run) => Err(run),
+        match stopped {
+            Some(stop) => Err(stop),
             None => Ok(all),
         }
     }
 
-    /// The cores in the order of their rows. `Broken` if the rows are not those from 0 on.
-    fn in_order<const CAP: usize>(&self, mut ran: Vec<Lone<CAP>>) -> Result<Vec<Core<CAP>>, Run>
+    /// Runs all rows but the one that is left to the caller, on at most that many threads.
+    fn run_all<const CAP: usize>(
+        &self,
+        waiting: &Waiting<CAP>,
+        threads: usize,
+    ) -> Result<Vec<Lone<CAP>>, Stop>
+        ensures played { IfOk result (λ ran. All (λ lone. IsPlayed self.now.acts.now self.now.places.now lone.row lone.core) ran.items) }
+        ensures cause { IfErr result (IsStopCause (G.may_refuse self.now.gate.now)) }
+    {
+        let left = if waiting.mover.is_some() { 1 } else { 0 };
+        let threads = threads.min(self.places.len().saturating_sub(left));
+        let rows = map_indices(
+            self.rt,
+            self.alloc,
+            threads,
+            &|thread: usize| -> Result<Vec<Lone<CAP>>, Stop>
+                ensures { IfOk result (λ ran. All (λ lone. IsPlayed self.entry.now.acts.now self.entry.now.places.now lone.row lone.core) ran.items)
+                    × IfErr result (IsStopCause (G.may_refuse self.entry.now.gate.now)) }
+            { self.run_rows(waiting, thread) },
+        )?;
+        self.join_rows(rows)
+    }
+
+    /// Runs the row on the calling thread, if no thread has taken its core. `threads` threads share
+    /// its moves.
+    fn run_slot<const CAP: usize>(
+        &self,
+        threads: usize,
+        row: usize,
+        slot: Option<Core<CAP>>,
+        ran: &mut Vec<Lone<CAP>>,
+    ) -> Result<(), Stop>
+        requires { All (λ lone. IsPlayed self.now.acts.now self.now.places.now lone.row lone.core) ran.old.items }
+        ensures played { OnOk result (All (λ lone. IsPlayed self.now.acts.now self.now.places.now lone.row lone.core) ran.new.items) }
+        ensures cause { IfErr result (IsStopCause (G.may_refuse self.now.gate.now)) }
+    {
+        match slot {
+            None => Ok(()),
+            Some(core) => {
+                let core = self.run_row(0, threads, row, core)?;
+                self.add(ran, Lone { row, core })?;
+                Ok(())
+            }
+        }
+    }
+
+    /// Adds the rows that no thread has taken, once the caller has run them.
+    fn run_left<const CAP: usize>(
+        &self,
+        threads: usize,
+        mut slots: Vec<Mutex<Option<Core<CAP>>>>,
+        mut ran: Vec<Lone<CAP>>,
+    ) -> Result<Vec<Lone<CAP>>, Stop>
         requires { All (λ lone. IsPlayed self.now.acts.now self.now.places.now lone.row lone.core) ran.items }
-        ensures { IfOk result (λ cores. ArePlayed self.now.acts.now self.now.places.now cores.items) }
+        ensures played { IfOk result (λ ran. All (λ lone. IsPlayed self.now.acts.now self.now.places.now lone.row lone.core) ran.items) }
+        ensures cause { IfErr result (IsStopCause (G.may_refuse self.now.gate.now)) }
+    {
+        for row in 0..slots.len() {
+            if row >= slots.len() {
+                return Err(Stop::Failed);
+            }
+            let slot = slots[row].get_mut().take();
+            self.run_slot(threads, row, slot, &mut ran)?;
+        }
+        Ok(ran)
+    }
+
+    /// The cores in the order of their rows. `Failed` if the rows are not those from 0 on.
+    fn in_order<const CAP: usize>(&self, mut ran: Vec<Lone<CAP>>) -> Result<Vec<Core<CAP>>, Stop>
+        requires { All (λ lone. IsPlayed self.now.acts.now self.now.places.now lone.row lone.core) ran.items }
+        ensures played { IfOk result (λ cores. ArePlayed self.now.acts.now self.now.places.now cores.items) }
+        ensures cause { IfErr result (IsStopCause (G.may_refuse self.now.gate.now)) }
     {
         let mut cores = Vec::with_capacity(self.alloc, ran.len())?;
         for _ in 0..ran.len() {
             let at = place_of(ran.as_slice(), cores.len());
             if at >= ran.len() {
-                return Err(Run::Broken);
+                return Err(Stop::Failed);
             }
             let Lone { row, core } = ran.remove(at);
             if row != cores.len() {
-                return Err(Run::Broken);
+                return Err(Stop::Failed);
             }
             put_core(&mut cores, core)?;
         }
         Ok(cores)
     }
 
-    /// Runs all rows on that many threads.
-    fn run_all<const CAP: usize>(
+    /// Runs all rows, each in its core, on at most that many threads. Returns the cores in order.
+    fn run<const CAP: usize>(
         &self,
-        waiting: &Waiting<CAP>,
+        cores: Vec<Core<CAP>>,
         threads: usize,
-    ) -> Result<Vec<Core<CAP>>, Run>
-        ensures { IfOk result (λ cores. ArePlayed self.now.acts.now self.now.places.now cores.items) }
+    ) -> Result<Vec<Core<CAP>>, Stop>
+        ensures played { IfOk result (λ cores. ArePlayed self.now.acts.now self.now.places.now cores.items) }
+        ensures cause { IfErr result (IsStopCause (G.may_refuse self.now.gate.now)) }
     {
-        let rows = map_vec(
-            self.rt,
-            thread_numbers(self.alloc, threads)?,
-            &|thread: usize| -> Result<Vec<Lone<CAP>>, Run>
-                ensures { IfOk result (λ ran. All (λ lone. IsPlayed self.entry.now.acts.now self.entry.now.places.now lone.row lone.core) ran.items) }
-            { self.run_rows(waiting, thread) },
-        )?;
-        self.in_order(self.join_rows(rows)?)
+        let waiting = Waiting {
+            mover: only_mover(self.acts, cores.len()),
+            slots: slots_of(self.alloc, cores)?,
+            next: AtomicU64::new(0),
+        };
+        let ran = self.run_all(&waiting, threads)?;
+        let Waiting { slots, .. } = waiting;
+        let ran = self.run_left(threads, slots, ran)?;
+        Ok(self.in_order(ran)?)
     }
 }
 
@@ -250,48 +415,48 @@ fn put_together<const CAP: usize>(
     acts: &[Act],
     order: Vec<u32>,
     places: &[Places],
-) -> Result<Core<CAP>, Run>
+) -> Result<Core<CAP>, Stop>
     requires workers { shared.workers ≤ MOST_WORKERS }
     requires hosted { IsHosted (setting_with CAP shared.blocks shared.workers) shared.rows }
     requires rest { length shared.rest.items + blocks_of_all CAP shared.rows ≡ shared.blocks }
     requires queued { AreQueuedIn (length shared.rows) acts.now order.items }
     requires have { HavePlaces acts.now places.now }
     requires played { ArePlayed acts.now places.now shared.cores.items }
-    ensures { IfOk result (λ core. acts_of core.journal ≡ acts.now) }
+    ensures made { IfOk result (λ core. IsPutTogether shared.entry.rows shared.entry.blocks acts.now core) }
+    ensures cause { IfErr result (λ stop. stop ≢ reason.Refused) }
 {
     if !shared.ran_apart() {
-        return Err(Run::Broken);
+        return Err(Stop::Failed);
     }
     Ok(Core::assemble(alloc, shared, order)?)
 }
 
-/// Runs acts that queue commands, on at most `threads` threads, each with a worker number of its
-/// own. An act of another kind, or for no row of the plan, is `Broken`.
-pub(crate) fn run_apart<const CAP: usize, R: Threads + Wait + Sync, G: Gate>(
+/// Runs acts that queue commands, each row in its core, and puts the cores together.
+#[tactic(auto, using(crate::proofs::Stops::unrefused_cause))]
+fn play_apart<const CAP: usize, R: Threads + Sync, G: Gate>(
     rt: &R,
     alloc: Global,
-    core: Core<CAP>,
+    shared: Shared<CAP>,
     acts: &[Act],
     threads: usize,
     gate: &G,
-) -> Result<Core<CAP>, Run>
-    requires { core
-        ≡ opened_core CAP (size core.games.storage.pool) core.games.workers core.games.rows }
-    ensures { IfOk result (λ done. IsRunOf core.entry acts.now done) }
+) -> Result<Core<CAP>, Stop>
+    requires workers { shared.workers ≤ MOST_WORKERS }
+    requires hosted { IsHosted (setting_with CAP shared.blocks shared.workers) shared.rows }
+    requires rest { length shared.rest.items + blocks_of_all CAP shared.rows ≡ shared.blocks }
+    ensures made { IfOk result (λ core. IsPutTogether shared.entry.rows shared.entry.blocks acts.now core) }
+    ensures cause { IfErr result (IsStopCause (G.may_refuse gate.now)) }
 {
-    let given = copy_rows(alloc, &core)?;
     let Shared {
         rows,
         workers,
         blocks,
         cores,
         rest,
-    } = core.share_out(alloc)?;
-    let order = order_of(alloc, acts, rows.as_slice().len())?;
-    let places = places_of(alloc, order.as_slice(), rows.as_slice().len())?;
-    let waiting = Waiting {
-        rows: Mutex::new(lone_cores(alloc, cores)?),
-    };
+    } = shared;
+    let many = rows.as_slice().len();
+    let order = order_of(alloc, acts, many)?;
+    let places = places_of(alloc, order.as_slice(), many)?;
     let apart = Apart {
         rt,
         alloc,
@@ -299,7 +464,7 @@ pub(crate) fn run_apart<const CAP: usize, R: Threads + Wait + Sync, G: Gate>(
         places: places.as_slice(),
         gate,
     };
-    let cores = apart.run_all(&waiting, threads)?;
+    let cores = apart.run(cores, threads)?;
     let shared = Shared {
         rows,
         workers,
@@ -307,10 +472,30 @@ pub(crate) fn run_apart<const CAP: usize, R: Threads + Wait + Sync, G: Gate>(
         cores,
         rest,
     };
-    let done = put_together(alloc, shared, acts, order, places.as_slice())?;
-    if has_ended_run(&done, given.as_slice(), blocks, acts) {
-        Ok(done)
-    } else {
-        Err(Run::Broken)
+    Ok(put_together(alloc, shared, acts, order, places.as_slice())?)
+}
+
+/// Runs acts that queue commands in the cores of a newly opened core that was shared out, on at
+/// most `threads` threads, each with a worker number of its own.
+pub(crate) fn run_apart<const CAP: usize, R: Threads + Sync, G: Gate>(
+    rt: &R,
+    alloc: Global,
+    shared: Shared<CAP>,
+    acts: &[Act],
+    threads: usize,
+    gate: &G,
+) -> Result<Core<CAP>, Stop>
+    requires workers { shared.workers ≤ MOST_WORKERS }
+    requires hosted { IsHosted (setting_with CAP shared.blocks shared.workers) shared.rows }
+    requires rest { length shared.rest.items + blocks_of_all CAP shared.rows ≡ shared.blocks }
+    ensures run { (old : CoreView) → shared.entry.rows ≡ old.games.rows → shared.entry.blocks ≡ size old.games.storage.pool
+        → IfOk result (λ done. IsRunOf old acts.now done) }
+    ensures cause { IfErr result (IsStopCause (G.may_refuse gate.now)) }
+{
+    let done = play_apart(rt, alloc, shared, acts, threads, gate)?;
+    if !done.is_quiet() {
+        return Err(Stop::Failed);
     }
+    keeps_apart(&done);
+    Ok(done)
 }

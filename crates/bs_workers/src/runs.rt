@@ -1,52 +1,81 @@
 //! A run: every act is made, and every command answered.
-ghost use Rattle.std.specs.Prelude.{◌≡◌, true, IfOk};
+ghost use Rattle.std.specs.Prelude.{◌≡◌, ◌≤◌, false, true, IfErr, IfOk, IsTrue};
+ghost use Rattle.bs_block.specs.Bytes.{IsCapacity};
 ghost use Rattle.bs_pool.specs.Ledger.{size};
+ghost use Rattle.bs_sched.specs.Assembly.{setting_with};
 ghost use Rattle.bs_sched.specs.Core.{opened_core};
+ghost use Rattle.bs_sched.specs.SharedMemory.{IsHosted};
+ghost use Rattle.bs_sched.specs.declared.cores.TheConstants.{MOST_WORKERS};
 ghost use Rattle.bs_workers.specs.Acts.{are_acceptable, capacity_of_core, opened};
+ghost use Rattle.bs_workers.specs.Causes.{IsCause};
+ghost use Rattle.bs_workers.specs.declared.fault.Run.TheVariants as cause;
 ghost use Rattle.bs_workers.specs.Run.{IsRunOf};
 
-use crate::act::{Act, are_commands, has_move};
+use crate::act::{Act, are_commands, only_mover};
 use crate::alone::run_alone;
 use crate::apart::run_apart;
-use crate::compare::{copy_rows, has_run};
-use crate::executor::Executor;
 use crate::fault::Run;
 use crate::gate::Gate;
-use bs_sched::Core;
+use crate::stop::Stop;
+use bs_block::{MOST_CAPACITY, UNIT};
+use bs_board::{Plan, Rows, Version};
+use bs_sched::{Core, Open};
 use std::alloc::Global;
-use std::sync::Wait;
 use std::thread::Threads;
 
-/// Runs the jobs of acts that queue commands for a single row on several threads, by an executor,
-/// and compares the core with the acts.
-fn run_together<const CAP: usize, R: Threads + Wait + Sync, G: Gate>(
-    rt: &R,
-    alloc: Global,
-    core: Core<CAP>,
-    acts: &[Act],
-    threads: usize,
-    gate: &G,
-) -> Result<Core<CAP>, Run>
-    requires { core
-        ≡ opened_core CAP (size core.games.storage.pool) core.games.workers core.games.rows }
-    ensures { IfOk result (λ done. IsRunOf core.entry acts.now done) }
+/// Whether cores with blocks of that capacity can be opened.
+fn can_open<const CAP: usize>() -> bool
+    ensures { IsTrue result → IsCapacity CAP }
 {
-    let rows = copy_rows(alloc, &core)?;
-    let blocks = core.counts().size;
-    let workers = core.workers();
-    let executor = Executor::new(alloc, core)?;
-    executor.work_in_threads(rt, acts, threads, gate);
-    let core = executor.finish(rt, (threads, workers), gate)?;
-    if has_run(&core, rows.as_slice(), blocks, acts) {
-        Ok(core)
-    } else {
-        Err(Run::Broken)
+    CAP % UNIT == 0 && CAP >= UNIT && CAP <= MOST_CAPACITY
+}
+
+/// Whether one thread runs the acts: no other could run a job, or the run could not be repeated.
+fn is_alone<const CAP: usize>(core: &Core<CAP>, acts: &[Act], threads: usize) -> bool
+    ensures { result ≡ false → IsCapacity CAP }
+{
+    if !can_open::<CAP>() {
+        return true;
+    }
+    let rows = core.rows();
+    threads <= 1 || !are_commands(acts) || (rows <= 1 && only_mover(acts, rows).is_none())
+}
+
+/// What a newly opened core is opened with.
+#[derive(Drop)]
+struct Opening {
+    rows: Rows,
+    blocks: usize,
+    workers: usize,
+}
+
+/// Opens the core again. The first one was dropped, with its blocks.
+fn open_again<const CAP: usize>(alloc: Global, given: Opening) -> Result<Core<CAP>, Run>
+    requires capacity { IsCapacity CAP }
+    requires workers { given.workers ≤ MOST_WORKERS }
+    requires hosted { IsHosted (setting_with CAP given.blocks given.workers) given.rows }
+    ensures core { IfOk result (λ core. core ≡ opened_core CAP given.blocks given.workers given.rows) }
+    ensures cause { IfErr result (λ fault. fault ≡ cause.Memory) }
+{
+    let Opening {
+        rows,
+        blocks,
+        workers,
+    } = given;
+    let plan = Plan {
+        rows,
+        version: Version::One,
+    };
+    match Core::open(alloc, plan, blocks, workers) {
+        Ok(core) => Ok(core),
+        Err(Open::Memory) => Err(Run::Memory),
+        Err(Open::Short) => unreachable!(),
     }
 }
 
 /// Like `run`, for any acts. An act that the core refuses for a reason other than memory stops the
 /// run with `Broken`.
-pub fn run_any<const CAP: usize, R: Threads + Wait + Sync, G: Gate>(
+pub fn run_any<const CAP: usize, R: Threads + Sync, G: Gate>(
     rt: &R,
     alloc: Global,
     core: Core<CAP>,
@@ -56,18 +85,28 @@ pub fn run_any<const CAP: usize, R: Threads + Wait + Sync, G: Gate>(
 ) -> Result<Core<CAP>, Run>
     requires { core
         ≡ opened_core CAP (size core.games.storage.pool) core.games.workers core.games.rows }
-    ensures { IfOk result (λ done. IsRunOf core.entry acts.now done) }
+    ensures run { IfOk result (λ done. IsRunOf core.entry acts.now done) }
+    ensures cause { are_acceptable (capacity_of_core CAP core.entry) (opened core.entry.games.rows) acts.now ≡ true
+        → IfErr result (IsCause (G.may_refuse gate.now)) }
 {
     let threads = threads.min(core.workers());
-    let rows = core.rows();
-    if threads <= 1 || !are_commands(acts) {
-        run_alone(alloc, core, acts, threads, gate)
-    } else if rows > 1 {
-        run_apart(rt, alloc, core, acts, threads.min(rows), gate)
-    } else if has_move(acts) {
-        run_together(rt, alloc, core, acts, threads, gate)
-    } else {
-        run_alone(alloc, core, acts, threads, gate)
+    if is_alone(&core, acts, threads) {
+        return run_alone(alloc, core, acts, threads, gate);
+    }
+    let shared = core.share_out(alloc)?;
+    let given = Opening {
+        rows: shared.rows.copy(alloc)?,
+        blocks: shared.blocks,
+        workers: shared.workers,
+    };
+    match run_apart(rt, alloc, shared, acts, threads, gate) {
+        Ok(core) => Ok(core),
+        Err(Stop::Memory) => Err(Run::Memory),
+        Err(Stop::Refused) => Err(Run::Broken),
+        Err(Stop::Failed) => {
+            let core = open_again(alloc, given)?;
+            run_alone(alloc, core, acts, threads, gate)
+        }
     }
 }
 
@@ -78,7 +117,7 @@ pub fn run_any<const CAP: usize, R: Threads + Wait + Sync, G: Gate>(
 /// acceptable in its place, judged by the open stays alone: a command and a leave name an open
 /// stay; for an admitted row no open stay has its name, one more stay may be open, and its blocks
 /// are free besides those reserved for the open stays.
-pub fn run<const CAP: usize, R: Threads + Wait + Sync, G: Gate>(
+pub fn run<const CAP: usize, R: Threads + Sync, G: Gate>(
     rt: &R,
     alloc: Global,
     core: Core<CAP>,
@@ -90,7 +129,8 @@ pub fn run<const CAP: usize, R: Threads + Wait + Sync, G: Gate>(
         ≡ opened_core CAP (size core.games.storage.pool) core.games.workers core.games.rows }
     requires acts { are_acceptable (capacity_of_core CAP core) (opened core.games.rows) acts.now
         ≡ true }
-    ensures { IfOk result (λ done. IsRunOf core.entry acts.now done) }
+    ensures run { IfOk result (λ done. IsRunOf core.entry acts.now done) }
+    ensures cause { IfErr result (IsCause (G.may_refuse gate.now)) }
 {
     run_any(rt, alloc, core, acts, threads, gate)
 }

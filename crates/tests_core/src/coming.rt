@@ -7,7 +7,6 @@ use bs_samples::{holds, new_of_three, new_solo, row, same, third_goes};
 use bs_sched::{Core, SharedRow};
 use bs_workers::{Act, OpenGate, Run};
 use std::alloc::{AllocError, Global};
-use std::sync::Wait;
 use std::test::Fail;
 use std::thread::Threads;
 
@@ -79,7 +78,7 @@ fn check_stays(alloc: Global, core: &Core<CAP>) -> Result<(), Fail> {
     check_stay(alloc, core, 3, true, (1, false))
 }
 
-fn check_broken<R: Threads + Wait + Sync + AllocGlobal>(
+fn check_broken<R: Threads + Sync + AllocGlobal>(
     rt: &R,
     acts: &[Act],
     threads: usize,
@@ -151,7 +150,7 @@ fn a_refused_act_breaks_the_run(rt: HostRuntime) -> Result<(), Fail> {
 }
 
 /// Checks that the last act is refused, also if a command follows it.
-fn check_refused<R: Threads + Wait + Sync + AllocGlobal>(
+fn check_refused<R: Threads + Sync + AllocGlobal>(
     rt: &R,
     acts: Vec<Act>,
     threads: usize,

@@ -7,9 +7,9 @@ use bs_samples::{holds, new_of_three, same, third_goes};
 use bs_sched::Event;
 use bs_workers::{Act, Gate, Run};
 use std::alloc::Global;
+use std::sync::Mutex;
 use std::sync::atomic::AtomicUsize;
 use std::sync::atomic::Ordering::SeqCst;
-use std::sync::{Mutex, Wait};
 use std::test::Fail;
 use std::thread::Threads;
 
@@ -25,7 +25,7 @@ impl Gate for Refusing {
     }
 }
 
-fn check_refused<R: Threads + Wait + Sync + AllocGlobal>(
+fn check_refused<R: Threads + Sync + AllocGlobal>(
     rt: &R,
     acts: &[Act],
     kind: JobKind,
@@ -59,15 +59,19 @@ fn a_shut_gate_breaks_the_run_at_a_leave(rt: HostRuntime) -> Result<(), Fail> {
 
 /// Records each job for which it is consulted, with the number of the thread.
 #[derive(Drop)]
-struct Noting {
+pub(crate) struct Noting {
     noted: Mutex<Vec<(usize, JobName)>>,
 }
 
 impl Noting {
-    fn new(alloc: Global) -> Noting {
+    pub(crate) fn new(alloc: Global) -> Noting {
         Noting {
             noted: Mutex::new(Vec::new(alloc)),
         }
+    }
+
+    pub(crate) fn into_noted(self) -> Vec<(usize, JobName)> {
+        self.noted.into_inner()
     }
 }
 
@@ -84,7 +88,7 @@ impl Gate for Noting {
 
 /// Checks that each job that was taken, by the journal, was recorded once, with the number of the
 /// worker as that of the thread; and no other job.
-fn check_noted(journal: &[Event], mut noted: Vec<(usize, JobName)>) -> Result<(), Fail> {
+pub(crate) fn check_noted(journal: &[Event], mut noted: Vec<(usize, JobName)>) -> Result<(), Fail> {
     for event in journal {
         if let Event::Take(worker, job) = event {
             let place = noted
@@ -195,10 +199,20 @@ fn a_held_game_holds_up_no_other(rt: HostRuntime) -> Result<(), Fail> {
 
 /// Refuses one job of those that it records: the first of that kind and part.
 #[derive(Drop)]
-struct RefusingOne {
+pub(crate) struct RefusingOne {
     asked: Noting,
     kind: JobKind,
     part: u8,
+}
+
+impl RefusingOne {
+    pub(crate) fn new(alloc: Global, kind: JobKind, part: u8) -> RefusingOne {
+        RefusingOne {
+            asked: Noting::new(alloc),
+            kind,
+            part,
+        }
+    }
 }
 
 impl Gate for RefusingOne {
@@ -217,7 +231,7 @@ const ASKED: [(JobKind, u8); 5] = [
 ];
 
 /// A `new` and a move of three snakes for one game.
-fn commands_of_a_move(alloc: Global) -> Result<Vec<Act>, Fail> {
+pub(crate) fn commands_of_a_move(alloc: Global) -> Result<Vec<Act>, Fail> {
     let mut acts = Vec::new(alloc);
     push(alloc, &mut acts, 0, new_of_three(alloc)?)?;
     push(alloc, &mut acts, 0, third_goes(alloc, Direction::Down)?)?;
@@ -247,14 +261,13 @@ fn one_thread_asks_for_begin_parts_and_join(rt: HostRuntime) -> Result<(), Fail>
 
 /// Runs a `new` and a move on one thread with a gate that refuses the job: the run is broken, and
 /// that job is the last one, of that many, for which the gate is consulted.
-fn check_refused_at<R: Threads + Wait + Sync + AllocGlobal>(
+fn check_refused_at<R: Threads + Sync + AllocGlobal>(
     rt: &R,
     (kind, part): (JobKind, u8),
     count: usize,
 ) -> Result<(), Fail> {
     let acts = commands_of_a_move(rt.alloc())?;
-    let asked = Noting::new(rt.alloc());
-    let gate = RefusingOne { asked, kind, part };
+    let gate = RefusingOne::new(rt.alloc(), kind, part);
     let ran = run_with(rt, &[("a", 4096)], acts.as_slice(), (1, 1), &gate)?;
     same("fault", ran.err(), Some(Run::Broken))?;
     check_asked(gate.asked.noted.into_inner().as_slice(), count)

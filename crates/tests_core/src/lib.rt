@@ -2,6 +2,8 @@
 #![tactic(auto)]
 
 #[cfg(test)]
+mod asked;
+#[cfg(test)]
 mod coming;
 #[cfg(test)]
 mod cores;
@@ -17,6 +19,8 @@ mod gates;
 mod here;
 #[cfg(test)]
 mod journals;
+#[cfg(test)]
+mod meetings;
 #[cfg(test)]
 mod player;
 #[cfg(test)]

@@ -6,7 +6,6 @@ use bs_samples::{holds, new_of_three, plan_of, same, third_goes};
 use bs_sched::{Core, MOST_WORKERS};
 use bs_workers::{Act, Gate, Run, run_any};
 use std::alloc::{AllocError, Global};
-use std::sync::Wait;
 use std::test::Fail;
 use std::thread::Threads;
 
@@ -65,7 +64,7 @@ fn push_others(alloc: Global, acts: &mut Vec<Act>) -> Result<(), Fail> {
 }
 
 /// Runs the acts in a core of those games with six blocks for each, on that many threads.
-pub(crate) fn run_games<R: Threads + Wait + Sync + AllocGlobal, G: Gate>(
+pub(crate) fn run_games<R: Threads + Sync + AllocGlobal, G: Gate>(
     rt: &R,
     games: &[(&str, u32)],
     acts: &[Act],
@@ -77,7 +76,7 @@ pub(crate) fn run_games<R: Threads + Wait + Sync + AllocGlobal, G: Gate>(
 
 /// Runs the acts in a core of those games with six blocks for each, on that many threads and
 /// workers.
-pub(crate) fn run_with<R: Threads + Wait + Sync + AllocGlobal, G: Gate>(
+pub(crate) fn run_with<R: Threads + Sync + AllocGlobal, G: Gate>(
     rt: &R,
     games: &[(&str, u32)],
     acts: &[Act],

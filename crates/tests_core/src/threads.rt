@@ -1,13 +1,11 @@
 //! Runs on several threads: the replies are the same for each number of threads.
 use crate::player::CAP;
 use crate::runs::{TWO, commands, push, run_games, run_with};
-use bs_board::Direction;
-use bs_fiber::{JobKind, JobName};
-use bs_samples::{holds, new_of_three, same, third_goes};
+use bs_fiber::JobName;
+use bs_samples::{holds, new_of_three, same};
 use bs_sched::{Core, Event};
 use bs_workers::{Act, Gate, OpenGate, Run};
 use std::alloc::Global;
-use std::sync::Wait;
 use std::sync::atomic::AtomicBool;
 use std::sync::atomic::Ordering::SeqCst;
 use std::test::Fail;
@@ -24,10 +22,7 @@ fn replies(alloc: Global, core: &Core<CAP>, game: usize) -> Result<String, Fail>
     Ok(format!(in alloc; "{first:?} {second:?}")?)
 }
 
-fn replies_by<R: Threads + Wait + Sync + AllocGlobal>(
-    rt: &R,
-    threads: usize,
-) -> Result<String, Fail> {
+fn replies_by<R: Threads + Sync + AllocGlobal>(rt: &R, threads: usize) -> Result<String, Fail> {
     let acts = commands(rt.alloc())?;
     let core = run_games(rt, &TWO, acts.as_slice(), threads, &OpenGate)??;
     replies(rt.alloc(), &core, 0)
@@ -268,76 +263,6 @@ fn check_names(core: &Core<CAP>) -> Result<(), Fail> {
     holds("two games", core.rows() == 2)?;
     same("first game", core.row(0).game.as_str(), "a")?;
     same("second game", core.row(1).game.as_str(), "b")
-}
-
-/// Delays each of the two parts of a move until the other has begun, or for a while.
-#[derive(Drop)]
-struct Meeting {
-    first: AtomicBool,
-    second: AtomicBool,
-    /// Whether both parts were in progress at a time.
-    met: AtomicBool,
-}
-
-/// Waits for the flag. Returns false if it is not set in time.
-fn wait_for(flag: &AtomicBool) -> bool {
-    for _ in 0..1_000_000u32 {
-        if flag.load(SeqCst) {
-            return true;
-        }
-    }
-    false
-}
-
-impl Meeting {
-    /// Sets the part's own flag and waits for the other's.
-    fn meet(&self, own: &AtomicBool, other: &AtomicBool) -> bool {
-        own.store(true, SeqCst);
-        if wait_for(other) {
-            self.met.store(true, SeqCst);
-        }
-        true
-    }
-}
-
-impl Gate for Meeting {
-    fn at(&self, _worker: usize, job: JobName) -> bool {
-        match (job.kind, job.part) {
-            (JobKind::Part, 0) => self.meet(&self.first, &self.second),
-            (JobKind::Part, 1) => self.meet(&self.second, &self.first),
-            _ => true,
-        }
-    }
-}
-
-/// Runs a move of one game on two threads. Returns whether its parts met.
-fn parts_meet<R: Threads + Wait + Sync + AllocGlobal>(rt: &R) -> Result<bool, Fail> {
-    let alloc = rt.alloc();
-    let mut acts = Vec::new(alloc);
-    push(alloc, &mut acts, 0, new_of_three(alloc)?)?;
-    push(alloc, &mut acts, 0, third_goes(alloc, Direction::Down)?)?;
-    let gate = Meeting {
-        first: AtomicBool::new(false),
-        second: AtomicBool::new(false),
-        met: AtomicBool::new(false),
-    };
-    let core = run_games(rt, &[("a", 4096)], acts.as_slice(), 2, &gate)??;
-    holds("quiet", core.is_quiet())?;
-    holds("part 0", gate.first.load(SeqCst))?;
-    holds("part 1", gate.second.load(SeqCst))?;
-    Ok(gate.met.load(SeqCst))
-}
-
-/// Two threads run the parts of one move at the same time, in one of many runs at least: a thread
-/// that sleeps is not woken for a part.
-#[test]
-fn two_threads_are_at_one_move(rt: HostRuntime) -> Result<(), Fail> {
-    for _ in 0..1_000u32 {
-        if parts_meet(&rt)? {
-            return Ok(());
-        }
-    }
-    Err("the parts of a move never met".into())
 }
 
 /// Delays the jobs until `wanted` threads have begun one.

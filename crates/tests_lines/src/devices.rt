@@ -7,7 +7,6 @@ use bs_samples::same;
 use bs_workers::OpenGate;
 use std::alloc::{AllocError, Global};
 use std::io::ErrorKind;
-use std::sync::Wait;
 use std::test::Fail;
 use std::thread::Threads;
 
@@ -56,7 +55,7 @@ fn writers_that_fail_once(rt: HostRuntime) -> Result<(), Fail> {
 }
 
 // Compares the fault of a writer that takes `room` bytes, one a call, and what it took.
-fn is_cut_off<R: Threads + Wait + Sync>(
+fn is_cut_off<R: Threads + Sync>(
     rt: &R,
     alloc: Global,
     room: usize,

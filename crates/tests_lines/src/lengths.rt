@@ -4,7 +4,6 @@ use bs_host::read_input;
 use bs_samples::{holds, same};
 use bs_workers::OpenGate;
 use std::alloc::{AllocError, Global};
-use std::sync::Wait;
 use std::test::Fail;
 use std::thread::Threads;
 
@@ -17,7 +16,7 @@ const END: &str = r#"{"board":null,"charge":0,"final":true,"game":"a"}"#;
 const LONG: &str = r#"{"line":2,"no":"L3","why":"long"}"#;
 
 // Compares the first and the last line of the transcript of a file with a line padded with spaces.
-fn filled_line_is_answered<R: Threads + Wait + Sync>(
+fn filled_line_is_answered<R: Threads + Sync>(
     rt: &R,
     alloc: Global,
     line: &str,

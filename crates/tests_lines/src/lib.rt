@@ -12,6 +12,8 @@ mod files;
 #[cfg(test)]
 mod games;
 #[cfg(test)]
+mod gates;
+#[cfg(test)]
 mod lengths;
 #[cfg(test)]
 mod limits;

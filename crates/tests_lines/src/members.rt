@@ -3,7 +3,6 @@ use crate::serving::{Run, transcript};
 use bs_samples::holds;
 use bs_workers::OpenGate;
 use std::alloc::Global;
-use std::sync::Wait;
 use std::test::Fail;
 use std::thread::Threads;
 
@@ -91,7 +90,7 @@ const LINES: [(&str, &str); 4] = [
 ];
 
 // Compares the beginning of the transcript of a game whose one line has these members.
-fn is_answered<R: Threads + Wait + Sync>(
+fn is_answered<R: Threads + Sync>(
     rt: &R,
     alloc: Global,
     members: &str,

@@ -5,7 +5,6 @@ use bs_fiber::{JobKind, JobName};
 use bs_samples::{holds, same};
 use bs_workers::Gate;
 use std::alloc::{AllocError, Global};
-use std::sync::Wait;
 use std::sync::atomic::Ordering::SeqCst;
 use std::sync::atomic::{AtomicBool, AtomicUsize};
 use std::test::Fail;
@@ -46,34 +45,8 @@ impl Gate for Meeting {
     }
 }
 
-/// How often the file is served at most.
-const TRIES: u32 = 5;
-
-/// Serves a file by two threads whose parts meet, and compares the transcript. Returns false if the
-/// run was broken off since no part saw the other's flag.
-fn is_met<R: Threads + Wait + Sync>(rt: &R, alloc: Global, file: &str) -> Result<bool, Fail> {
-    let run = Run {
-        file,
-        blocks: 6,
-        workers: 2,
-    };
-    let gate = new_meeting();
-    let mut written = Vec::new(alloc);
-    let told = outcome(rt, alloc, run, &gate, &mut written)?;
-    if told.as_str() == "broken" {
-        return Ok(false);
-    }
-    same("the outcome", told.as_str(), "served")?;
-    let text = String::from_utf8(written).ok().ok_or("text")?;
-    same("the transcript", text.as_str(), SECOND_TEXT)?;
-    holds("the first part met", gate.first.load(SeqCst))?;
-    holds("the second part met", gate.second.load(SeqCst))?;
-    Ok(true)
-}
-
-// Two threads run parts of one move at the same time: on one thread no part would see the other's
-// flag. A thread that sleeps when the parts become ready is not woken for them, and then the run is
-// broken off; so there are several tries.
+// Two threads run parts of one move at the same time, each time: on one thread no part would see
+// the other's flag, and the run would be broken off.
 #[test]
 fn two_parts_of_one_move_at_once(rt: HostRuntime) -> Result<(), Fail> {
     let alloc = rt.alloc();
@@ -82,12 +55,19 @@ fn two_parts_of_one_move_at_once(rt: HostRuntime) -> Result<(), Fail> {
         number: 1,
     };
     let own = cut_text(alloc, TWO_GAMES, 12, stay)?;
-    for _ in 0..TRIES {
-        if is_met(&rt, alloc, own.as_str())? {
-            return Ok(());
-        }
-    }
-    holds("the parts met in one of the tries", false)
+    let run = Run {
+        file: own.as_str(),
+        blocks: 6,
+        workers: 2,
+    };
+    let gate = new_meeting();
+    let mut written = Vec::new(alloc);
+    let told = outcome(&rt, alloc, run, &gate, &mut written)?;
+    same("the outcome", told.as_str(), "served")?;
+    let text = String::from_utf8(written).ok().ok_or("text")?;
+    same("the transcript", text.as_str(), SECOND_TEXT)?;
+    holds("the first part met", gate.first.load(SeqCst))?;
+    holds("the second part met", gate.second.load(SeqCst))
 }
 
 // A game with the snakes that replace `SNAKES`. In its first move a snake b leaves the board.
@@ -125,7 +105,7 @@ fn snakes_of(alloc: Global, names: &str) -> Result<String, AllocError> {
 }
 
 // Counts the parts of the two moves of these snakes.
-fn parts_of<R: Threads + Wait + Sync>(rt: &R, alloc: Global, names: &str) -> Result<usize, Fail> {
+fn parts_of<R: Threads + Sync>(rt: &R, alloc: Global, names: &str) -> Result<usize, Fail> {
     let snakes = snakes_of(alloc, names)?;
     let file = TWO_MOVES.replace(alloc, "SNAKES", snakes.as_str())?;
     let run = Run {

@@ -4,7 +4,6 @@ use bs_samples::same;
 use bs_workers::{Gate, OpenGate};
 use std::alloc::{AllocError, Global};
 use std::io::Write;
-use std::sync::Wait;
 use std::test::Fail;
 use std::thread::Threads;
 
@@ -25,7 +24,7 @@ fn first_line(file: &str) -> &str {
 }
 
 /// Serves a file to a writer, and returns "served" or the fault.
-pub fn outcome<R: Threads + Wait + Sync, G: Gate, W: Write>(
+pub fn outcome<R: Threads + Sync, G: Gate, W: Write>(
     rt: &R,
     alloc: Global,
     run: Run<'_>,
@@ -40,7 +39,7 @@ pub fn outcome<R: Threads + Wait + Sync, G: Gate, W: Write>(
 }
 
 /// Returns the transcript of a file that is served with this `Gate`, which lets all jobs pass.
-pub fn transcript<R: Threads + Wait + Sync, G: Gate>(
+pub fn transcript<R: Threads + Sync, G: Gate>(
     rt: &R,
     alloc: Global,
     run: Run<'_>,
@@ -53,7 +52,7 @@ pub fn transcript<R: Threads + Wait + Sync, G: Gate>(
 }
 
 /// Compares the transcript of a file with a text.
-pub fn is_served<R: Threads + Wait + Sync>(
+pub fn is_served<R: Threads + Sync>(
     rt: &R,
     alloc: Global,
     run: Run<'_>,
@@ -64,7 +63,7 @@ pub fn is_served<R: Threads + Wait + Sync>(
 }
 
 /// Compares the transcripts by 1 to 4 workers with a text.
-pub fn is_served_by_all<R: Threads + Wait + Sync>(
+pub fn is_served_by_all<R: Threads + Sync>(
     rt: &R,
     alloc: Global,
     file: &str,
@@ -83,7 +82,7 @@ pub fn is_served_by_all<R: Threads + Wait + Sync>(
 }
 
 /// Compares the fault of a file that is refused, and checks that nothing is written.
-pub fn is_refused<R: Threads + Wait + Sync, G: Gate>(
+pub fn is_refused<R: Threads + Sync, G: Gate>(
     rt: &R,
     alloc: Global,
     run: Run<'_>,

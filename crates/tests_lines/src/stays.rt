@@ -8,7 +8,7 @@ use std::test::Fail;
 
 // Two stays of one name, an admission that fits only once another game has left, and each refusal
 // except that of the 65th game. For 12 blocks, of which each game reserves six.
-const STAYS: &str = r#"{"games":[{"game":"a","quota":64}],"version":3}
+pub(crate) const STAYS: &str = r#"{"games":[{"game":"a","quota":64}],"version":3}
 {"game":"b","do":"admit","quota":64}
 {"game":"c","do":"admit","quota":64}
 {"game":"b","do":"new","mode":"solo","width":5,"height":5,"snakes":[{"id":"s","x":1,"y":1}],"food":[],"min_food":0,"food_chance":0}

@@ -8,7 +8,6 @@ use bs_transcript::{
 };
 use std::alloc::{AllocError, Global};
 use std::io::ErrorKind;
-use std::sync::Wait;
 use std::test::Fail;
 use std::thread::Threads;
 
@@ -81,7 +80,7 @@ fn sections_and_strays(rt: HostRuntime) -> Result<(), Fail> {
 }
 
 // Writes the transcript of these sections and the two strays to a vector, with so many threads.
-fn written<R: Threads + Wait + Sync>(
+fn written<R: Threads + Sync>(
     rt: &R,
     alloc: Global,
     sections: &[Section<'_>],
@@ -236,7 +235,7 @@ struct Shown<'t> {
     places: usize,
 }
 
-fn is_transcript_cut_off<R: Threads + Wait + Sync>(
+fn is_transcript_cut_off<R: Threads + Sync>(
     rt: &R,
     alloc: Global,
     shown: Shown<'_>,
@@ -257,7 +256,7 @@ fn is_transcript_cut_off<R: Threads + Wait + Sync>(
 }
 
 // Writes the transcript to writers that fail at so many places, the last of which is near its end.
-fn is_cut_off_anywhere<R: Threads + Wait + Sync>(
+fn is_cut_off_anywhere<R: Threads + Sync>(
     rt: &R,
     alloc: Global,
     shown: Shown<'_>,

@@ -9,7 +9,6 @@ use bs_host::serve;
 use bs_samples::{holds, same};
 use bs_workers::{Gate, OpenGate};
 use std::alloc::{AllocError, Global};
-use std::sync::Wait;
 use std::test::Fail;
 use std::thread::Threads;
 
@@ -51,11 +50,7 @@ fn files_without_a_game(rt: HostRuntime) -> Result<(), Fail> {
 }
 
 // Compares a core that served both games with `workers` workers: its replies and charges.
-fn is_finished<R: Threads + Wait + Sync>(
-    rt: &R,
-    alloc: Global,
-    workers: usize,
-) -> Result<(), Fail> {
+fn is_finished<R: Threads + Sync>(rt: &R, alloc: Global, workers: usize) -> Result<(), Fail> {
     let mut written = Vec::new(alloc);
     let file = TWO_GAMES.as_bytes();
     let core = serve(rt, alloc, file, 12, workers, &OpenGate, &mut written)

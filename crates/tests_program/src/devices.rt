@@ -2,7 +2,6 @@
 use bs_program::Sources;
 use std::io;
 use std::io::{ErrorKind, Read, Write};
-use std::sync::Wait;
 use std::thread::Threads;
 
 /// Takes `room` bytes, at most seven at a time, and then none. The first `flushes` flushes succeed,
@@ -44,18 +43,18 @@ impl Read for Unreadable {
     }
 }
 
-/// The system, with one file of that name. Opening another one gives that error.
+/// The system, with one file of that name. Opening another one gives that error, and so do all reads
+/// of the file if it is unreadable.
 #[derive(Drop)]
 pub(crate) struct Shelf<'a, R> {
     pub(crate) rt: &'a R,
     pub(crate) name: &'a str,
     pub(crate) bytes: &'a [u8],
     pub(crate) error: ErrorKind,
+    pub(crate) is_unreadable: bool,
 }
 
 impl<'a, R: Threads> Threads for Shelf<'a, R> {}
-
-impl<'a, R: Wait> Wait for Shelf<'a, R> {}
 
 impl<'a, R> Sources for Shelf<'a, R> {
     type Source = &'a [u8];
@@ -65,5 +64,12 @@ impl<'a, R> Sources for Shelf<'a, R> {
             return Ok(self.bytes);
         }
         Err(io::Error::from(self.error))
+    }
+
+    fn read(&self, _name: &str, source: &mut &'a [u8], buf: &mut [u8]) -> io::Result<usize> {
+        if self.is_unreadable {
+            return Err(io::Error::from(self.error));
+        }
+        source.read(buf)
     }
 }

@@ -5,7 +5,6 @@ use bs_program::{Failure, Input, Output, Request, Serving, Solo, run_request};
 use bs_samples::{holds, same};
 use std::alloc::Global;
 use std::io::ErrorKind;
-use std::sync::Wait;
 use std::test::Fail;
 use std::thread::Threads;
 
@@ -17,7 +16,7 @@ const END_OF_A: &str = "{\"board\":null,\"charge\":0,\"final\":true,\"game\":\"a
 
 /// Does what is asked for on a system with the one file `games.jsonl`, of which the plan is that of
 /// `a`; the standard input has the plan of `b`.
-fn served<H: Threads + Wait + Sync>(
+fn served<H: Threads + Sync>(
     rt: &H,
     alloc: Global,
     request: Request<'_>,
@@ -29,6 +28,7 @@ fn served<H: Threads + Wait + Sync>(
         name: "games.jsonl",
         bytes: PLAN_OF_A.as_bytes(),
         error,
+        is_unreadable: false,
     };
     let mut input = Input::new(PLAN_OF_B.as_bytes());
     run_request(
@@ -106,6 +106,7 @@ fn a_standard_input_that_fails(rt: HostRuntime) -> Result<(), Fail> {
         name: "games.jsonl",
         bytes: PLAN_OF_A.as_bytes(),
         error: ErrorKind::NotFound,
+        is_unreadable: false,
     };
     for (file, is_read) in [("-", false), ("games.jsonl", true)] {
         let mut device = device(alloc);
@@ -115,6 +116,31 @@ fn a_standard_input_that_fails(rt: HostRuntime) -> Result<(), Fail> {
         let fails = matches!(answer, Err(Failure::Read(ReadFault::Device)));
         same("cannot be read", fails, !is_read)?;
         same("is done", answer.is_ok(), is_read)?;
+    }
+    Ok(())
+}
+
+/// A named file whose reads fail is not read, whatever the standard input has; the standard input is
+/// served beside it.
+#[test]
+fn a_file_whose_reads_fail(rt: HostRuntime) -> Result<(), Fail> {
+    let alloc = rt.alloc();
+    let system = Shelf {
+        rt: &rt,
+        name: "games.jsonl",
+        bytes: PLAN_OF_A.as_bytes(),
+        error: ErrorKind::BrokenPipe,
+        is_unreadable: true,
+    };
+    for (file, is_read) in [("games.jsonl", false), ("-", true)] {
+        let mut device = device(alloc);
+        let mut input = Input::new(PLAN_OF_B.as_bytes());
+        let mut output = Output::new(&mut device);
+        let answer = run_request(&system, alloc, serve(file), &mut input, &mut output);
+        let fails = matches!(answer, Err(Failure::Read(ReadFault::Device)));
+        same("cannot be read", fails, !is_read)?;
+        same("is done", answer.is_ok(), is_read)?;
+        same("is written", device.taken.is_empty(), !is_read)?;
     }
     Ok(())
 }

@@ -5,7 +5,6 @@ use bs_program::{Failure, Input, Output, Request, Serving, Solo, Sources, run_re
 use bs_samples::{holds, same};
 use std::alloc::Global;
 use std::io::Write;
-use std::sync::Wait;
 use std::test::Fail;
 use std::thread::Threads;
 
@@ -40,7 +39,7 @@ fn device(alloc: Global, room: usize, flushes: usize) -> Device {
 
 /// Does what is asked for with the plan of two games, and compares the bytes that were written and
 /// how many of them were flushed.
-fn check<H: Sources + Threads + Wait + Sync>(
+fn check<H: Sources + Threads + Sync>(
     rt: &H,
     alloc: Global,
     request: Request<'_>,

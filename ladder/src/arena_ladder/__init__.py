@@ -1,15 +1,25 @@
 """A ladder of Battlesnake servers, played on `arena live`; docs/LADDER.md is its manual.
 
-The modules, by what they serve:
+The packages; each imports only itself and those before it:
 
-    commands       main, and the modules in ..._commands, contests, match, results_page
-    what is played config, pairing, endless, rated, tournament, matches, brackets, groups, starts
-    draws          draws, seeds, maps, map_moves, official/
-    a run          play, schedule, pulse, keeper, game, game_files, hook, progress, watch
-    bots           bots, payloads, connections, owners, response, tls, racing, addresses, networks
-    results        store, outcome, sums, rating, standings, seasons, packs, kept_answers, bot_log
-    checking       check, export, backup, merge, transcripts
-    the page       page_link, page, page_calls, feed, news, history, days, marks, colours, static/
+    net/       calls of bots: bots (the client), connections (HTTP, kept open) with owners, racing,
+               response and tls; addresses and networks (names, and where calls may go), urls;
+               misses (why a move is missed), pulse (whether the ladder itself is late)
+    game/      what is played: config; starts, maps, map_moves and official/ (boards), draws (from
+               the seed); which games: pairing, rated (endless), and tournament with matches,
+               brackets and groups; game (plays one) with payloads (what bots are sent), outcome,
+               game_files and watch (who observes)
+    results/   what is kept: store (SQLite) with sums, packs (command files), lock, seeds, roster
+               and marks; standings with rating and quantiles, sprt, seasons, history, about;
+               transcripts, kept_answers, bot_log; backup, export, merge
+    run/       play (a run) with schedule, keeper (of the host) and hook; endless and
+               tournament_play (its next games); progress and times; check (replays a folder)
+    page/      page (its process) with page_calls (requests), feed (events) and static/; page_link
+               and news (the run's end); colours, days; viewer_page
+    commands/  main (the parser), contests, results_page, .._commands; match; program, view
+
+All use texts, which cleans the texts of strangers (a bot's shout is cleaned by net/bots.py), and
+heap, the process's memory.
 
 A run is `play`: it takes games from a source (`endless`, `tournament_play` or the pairings), plays
 each by `game` on a host that `keeper` keeps alive, and stores its result. Bots are asked through

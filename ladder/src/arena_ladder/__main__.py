@@ -2,6 +2,6 @@
 
 import sys
 
-from arena_ladder.main import main
+from arena_ladder.commands.main import main
 
 sys.exit(main(prog="python3 -m arena_ladder"))

@@ -8,7 +8,7 @@ UNFIT = ("Cc", "Zl", "Zp")  # kinds of characters that are dropped: controls and
 FORMULA = ("=", "+", "-", "@")  # with which a spreadsheet begins a formula
 
 
-def fit_text(text: str) -> str:
+def printable(text: str) -> str:
     """A text that every reader of JSON takes, and that moves no cursor of a terminal.
 
     Control characters are dropped; a lone surrogate, which is no character, becomes `?`.
@@ -24,5 +24,5 @@ def counted(number: int, noun: str, form: str = "") -> str:
 
 def cell_text(text: str) -> str:
     """A text that a spreadsheet shows, and does not compute."""
-    fit = fit_text(text)
+    fit = printable(text)
     return f"'{fit}" if fit.startswith(FORMULA) else fit

@@ -8,7 +8,7 @@ use Rattle.bs_board.specs.declared.boards.point.Point.{Point}
 use Rattle.bs_board.specs.declared.boards.snake.Snake.{Snake}
 use Rattle.bs_board.specs.declared.limits.TheConstants.{FULL_HEALTH}
 use Rattle.bs_board.specs.declared.records.layout.SnakeBytes.{SnakeBytes}
-use Rattle.bs_board.specs.boards.Cell.{is_on_board, is_same_cell, origin}
+use Rattle.bs_board.specs.boards.Cell.{head_of, is_on_board, is_same_cell, origin}
 use Rattle.bs_board.specs.boards.Over.{is_living}
 use Rattle.bs_board.specs.records.Layout.{IsSnakeBytes, cells_of}
 use Rattle.bs_board.specs.records.Writing.{IsWritable}
@@ -73,9 +73,10 @@ pub record SwapsBody (old_body new_body : List Point) (old new : Plane) : Type 0
   pub height : new.height ≡ old.height
   pub cells : (on : Point → Cell) → Shows (with_body old_body on) old → Shows (with_body new_body on) new
 
--- a living snake moved, on the plane and in bytes
-pub record MovesSnake (b : Board) (given : Option Direction) (s : Snake) (old new : Plane) (bytes bytes' : List ℕ) : Type 0 where
+-- a living snake moved, with a new head, on the plane and in bytes
+pub record MovesSnake (b : Board) (given : Option Direction) (s : Snake) (head : Point) (old new : Plane) (bytes bytes' : List ℕ) : Type 0 where
   pub swaps : SwapsBody s.body (onward_by b given s).body old new
   pub written : bytes' ≡ bytes ++ snake_record (onward_by b given s)
+  pub leads : head_of (onward_by b given s).body ≡ head
   pub lives : LivesOn b given s
   pub fits : IsWritable (onward_by b given s)

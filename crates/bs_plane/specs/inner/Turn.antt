@@ -1,7 +1,8 @@
 -- A turn on the plane and in bytes.
-use Rattle.std.specs.Prelude.{◌≡◌, ℕ, ◌<◌, true, None, List, [], All, flat_map, length, map}
+use Rattle.std.specs.Prelude.{◌≡◌, ℕ, ◌<◌, true, None, List, [], All, length, map}
 use Rattle.bs_board.specs.declared.boards.board.Board.{Board}
 use Rattle.bs_board.specs.declared.boards.point.Direction.{Direction}
+use Rattle.bs_board.specs.declared.boards.point.Point.{Point}
 use Rattle.bs_board.specs.declared.limits.TheConstants.{LAST_TURN}
 use Rattle.bs_board.specs.boards.Legal.{IsLegal}
 use Rattle.bs_board.specs.commands.Orders.{Orders}
@@ -9,20 +10,20 @@ use Rattle.bs_board.specs.commands.Setup.{is_side}
 use Rattle.bs_rules.specs.Turn.{turn_of}
 use Rattle.bs_board.specs.declared.records.layout.BoardBytes.{BoardBytes}
 use Rattle.bs_board.specs.records.Layout.{IsBoardBytes}
-use Rattle.bs_board.specs.records.Record.{record_of, snake_record}
-use Rattle.bs_board.specs.records.Writing.{IsByteCell, IsWritable}
+use Rattle.bs_board.specs.records.Record.{record_of}
+use Rattle.bs_board.specs.records.Writing.{IsByteCell}
 use Rattle.bs_plane.specs.declared.plane.Plane.{Plane}
 use Rattle.bs_plane.specs.Food.{HasFood}
-use Rattle.bs_plane.specs.Onward.{ShowsSnakes, onward}
+use Rattle.bs_plane.specs.Onward.{ShowsSnakes, living_heads, onward}
 use Rattle.bs_plane.specs.Plane.{ShowsBoard}
 use Rattle.bs_plane.specs.Turn.{fed_onward}
 
 -- the plane and the bytes of the food, after the snakes' own turn
-abbrev pub Refills : (Board → Board) → BoardBytes → List ℕ → Plane → List ℕ → Plane → List ℕ → Type 0
-Refills more parts snakes old food new food' =
+abbrev pub Refills : (Board → Board) → BoardBytes → List Point → Plane → List ℕ → Plane → List ℕ → Type 0
+Refills more parts heads old food new food' =
     (b : Board) (moves : List (List ℕ × Direction)) → IsBoardBytes b parts → All (IsByteCell 0) b.food
-    → ShowsSnakes b (map (onward b moves) b.snakes) old → snakes ≡ flat_map snake_record (map (onward b moves) b.snakes)
-    → All IsWritable (map (onward b moves) b.snakes) → food ≡ [] → HasFood (more (fed_onward b moves)) new food'
+    → ShowsSnakes b (map (onward b moves) b.snakes) old → heads ≡ living_heads (map (onward b moves) b.snakes) → food ≡ []
+    → HasFood (more (fed_onward b moves)) new food'
 
 -- the plane can follow the turn, unless a snake goes out
 pub record MayStep (parts : BoardBytes) (orders : Orders) : Type 0 where

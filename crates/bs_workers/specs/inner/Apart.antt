@@ -1,7 +1,10 @@
 -- What a thread does to the core of one row of a run.
-use Rattle.std.specs.Prelude.{◌≡◌, ℕ, ◌<◌, List, [], ◌∷◌, ◌++◌, length, map, All, Option, Some, None, slice_index_or, slice_set}
+use Rattle.std.specs.Prelude.{◌≡◌, ℕ, ◌<◌, false, List, [], ◌∷◌, ◌++◌, length, map, All, Option, Some, None, slice_index_or, slice_set}
 use Rattle.std.specs.List.{filter_map}
-use Rattle.bs_sched.specs.Assembly.{Hand, IsOrderOf, IsQueuedFirst, core_at, hand_event}
+use Rattle.bs_board.specs.plans.Plan.{GameRow}
+use Rattle.bs_pool.specs.Ledger.{size}
+use Rattle.bs_sched.specs.declared.event.Event.{Event}
+use Rattle.bs_sched.specs.Assembly.{Hand, IsJob, IsOrderOf, IsQueuedFirst, core_at, hand_event}
 use Rattle.bs_sched.specs.Core.{CoreView}
 use Rattle.bs_workers.specs.declared.act.Act.{Act}
 use Rattle.bs_workers.specs.declared.act.Act.TheVariants as act
@@ -34,6 +37,13 @@ HavePlaces acts places =
 abbrev pub IsPlayed : List Act → List (List ℕ) → ℕ → CoreView → Type 0
 IsPlayed acts places row core = HavePlaces acts places → IsQueuedFirst (filter_map (command_in row) acts) core
 
+-- the core's journal goes on by jobs
+pub record GoesOn (old new : CoreView) : Type 0 where
+  pub jobs : List Event
+  pub journal : new.journal ≡ old.journal ++ jobs
+  pub are_jobs : All IsJob jobs
+  pub workers : new.games.workers ≡ old.games.workers
+
 -- there is the core of each row, in order
 abbrev pub ArePlayed : List Act → List (List ℕ) → List CoreView → Type 0
 ArePlayed acts places cores = (row : ℕ) → row < length cores → IsPlayed acts places row (core_at cores row)
@@ -61,3 +71,11 @@ pub record AreQueuedIn (rows : ℕ) (acts : List Act) (order : List ℕ) : Type 
   pub ordered : IsOrderOf (hands_of acts) order
   pub within : All (λ hand. hand.row < rows) (hands_of acts)
   pub acted : acts_of (map hand_event (hands_of acts)) ≡ acts
+
+-- What is known of the core that was put together, before its commands are counted: it has this plan
+-- and as many blocks, `fail` was not called, and its journal makes the acts.
+pub record IsPutTogether (plan : List GameRow) (blocks : ℕ) (acts : List Act) (core : CoreView) : Type 0 where
+  pub rows : core.games.rows ≡ plan
+  pub size_is : size core.games.storage.pool ≡ blocks
+  pub works : core.games.failed ≡ false
+  pub acted : acts_of core.journal ≡ acts

@@ -11,4 +11,4 @@ use Rattle.bs_plane.proofs.motion.move_snakes.Given as goal
 abbrev pub invariant-loop : goal.invariant-loop
 invariant-loop l =
     (b : Board) → IsLegal b → IsBoardBytes b l.board → ShowsSnakes b b.snakes l.fn.plane
-    → MovesSnakes l.counter b l.moves l.plane l.fn.into.items l.into.items × (l.left ≡ flat_map snake_record (drop l.counter b.snakes))
+    → MovesSnakes l.counter b l.moves l.plane l.fn.into.items l.into.items l.fn.heads.items l.heads.items × (l.left ≡ flat_map snake_record (drop l.counter b.snakes))

@@ -11,7 +11,8 @@ returns c _ b legal of shows =
     let may = subst (λ (o : Orders). MayStep c.args.board.now o) (sym c.orders.view_is) c.requires in
     let moves = c.in_ok-move_snakes.ensures c.if-not-branch.false b legal of (shown_snakes b c.args.plane.now shows) in
     subst (λ (o : Orders). Plays b o c.refill.new.plane c.write_record.new.into.items) c.orders.view_is
-    (plays b orders legal c.args.board.now of may c.move_snakes.new.plane c.refill.new.plane c.clear.new.self.items c.move_snakes.new.into.items c.clear-2.new.self.items
-    c.refill.new.food.items c.write_record.new.into.items moves c.clear.ensures.items (λ list many is fits. c.are_alone.ensures c.if-not-are_alone.false list many (c.deref.ensures.value ∙ is) fits)
-    (rw (c.as_slice.ensures.value, c.deref-2.ensures.value) at (c.in_ok-refill.ensures c.if-not-branch-2.false)) c.clear-2.ensures.items
+    (plays b orders legal c.args.board.now of may c.move_snakes.new.plane c.refill.new.plane c.clear.new.self.items c.move_snakes.new.into.items c.clear-3.new.self.items
+    c.refill.new.food.items c.write_record.new.into.items c.clear-2.new.self.items c.move_snakes.new.heads.items moves c.clear.ensures.items c.clear-2.ensures.items
+    (rw c.deref.ensures.value at (c.are_alone.ensures c.if-not-are_alone.false))
+    (rw (c.as_slice.ensures.value, c.deref-2.ensures.value) at (c.in_ok-refill.ensures c.if-not-branch-2.false)) c.clear-3.ensures.items
     (rw (c.deref-3.ensures.value, c.deref-4.ensures.value) at c.in_ok-write_record.ensures))

@@ -2,7 +2,7 @@
 use Rattle.std.proofs.Common.{sym, ap, subst, ◌∙◌}
 use Rattle.bs_sched.specs.Journal.{setting_in}
 use Rattle.bs_workers.specs.declared.act.Act.TheVariants as act
-use Rattle.bs_workers.specs.inner.Causes.{IsCause}
+use Rattle.bs_workers.specs.Causes.{IsCause}
 use Rattle.bs_workers.specs.inner.Faults.{refused_fault}
 use Rattle.bs_workers.proofs.AcceptableActs.{admit_for_memory}
 use Rattle.bs_workers.proofs.MadeActs.{makes_event}

@@ -3,7 +3,7 @@ use Rattle.std.specs.Prelude.{IfErr}
 use Rattle.std.proofs.Common.{subst}
 use Rattle.bs_sched.specs.Journal.{setting_in}
 use Rattle.bs_workers.specs.Acceptable.{MayBeMade}
-use Rattle.bs_workers.specs.inner.Causes.{IsCause}
+use Rattle.bs_workers.specs.Causes.{IsCause}
 use Rattle.bs_workers.proofs.AcceptableActs.{next_still}
 use Rattle.bs_workers.proofs.RunAlone.{leave_enabled}
 use Rattle.bs_workers.proofs.alone.Alone.make.Goals as goal

@@ -1,7 +1,7 @@
 -- Each act is acceptable after those before it.
 use Rattle.std.proofs.Common.{subst}
 use Rattle.std.proofs.lemmas.Result.{err_from_is_err_and}
-use Rattle.bs_workers.specs.inner.Causes.{IsCause}
+use Rattle.bs_workers.specs.Causes.{IsCause}
 use Rattle.bs_workers.proofs.AcceptableActs.{next_of}
 use Rattle.bs_workers.proofs.alone.Alone.make_all.Goals as goal
 

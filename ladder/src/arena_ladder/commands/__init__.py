@@ -1,0 +1,1 @@
+"""The command line: `main`, the commands by their subject, and boards on a terminal."""

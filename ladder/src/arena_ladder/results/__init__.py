@@ -1,0 +1,1 @@
+"""What is kept of games: the store, ratings from it, seasons, archives and logs."""

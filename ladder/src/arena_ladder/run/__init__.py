@@ -1,0 +1,1 @@
+"""Plays games until all are done, replays them, and says how it goes."""
