@@ -131,7 +131,7 @@ impl<const CAP: usize> TagBlocks<CAP> {
     }
 
     /// Whether a record of `len` bytes fits into the current block.
-    fn fits(&self, len: usize) -> bool
+    pub(crate) fn fits(&self, len: usize) -> bool
         requires { len + 15 < 2 ^ 64 }
         ensures { result ≡ fits_current CAP len self.now }
     {

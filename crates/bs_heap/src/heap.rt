@@ -118,6 +118,13 @@ impl<const CAP: usize> TagHeap<CAP> {
         self.index.reserve(1)
     }
 
+    /// Whether the current block has room for the largest record, so that no record needs another.
+    pub fn has_room(&self) -> bool
+        ensures { result ≡ fits CAP (rounded MOST_RECORD_BYTES) self.now.packing.current }
+    {
+        self.blocks.fits(MOST_RECORD_BYTES)
+    }
+
     /// Appends a record. `Quota` if its rounded size and the charge together exceed the quota.
     pub fn add(&mut self, pool: &mut Pool<CAP>, bytes: &[u8]) -> Result<(), Quota>
         requires index { 0 < self.old.index_room }

@@ -11,8 +11,8 @@ use Rattle.bs_board.specs.plans.Plan.{GameRow, have_distinct_names, row_of}
 use Rattle.bs_board.specs.Texts.{is_same_text}
 use Rattle.bs_board.proofs.Chains.{and_both, or_both}
 use Rattle.bs_board.proofs.Distinct.{are_distinct_map, distinct_of_filter}
-use Rattle.bs_registry.specs.OpenStays.{bears}
-use Rattle.bs_registry.specs.inner.OpenStays.{are_named_once, is_named_at}
+use Rattle.bs_registry.specs.OpenStays.{are_named_once, bears}
+use Rattle.bs_registry.specs.inner.OpenStays.{is_named_at}
 
 -- If no two elements of a list pass a test, an element that passes it is the first one that passes.
 pub only_first : {X : Type 0} (same : X → X → Bool) (p : X → Bool) → ((x y : X) → p x ≡ true → p y ≡ true → same x y ≡ true)

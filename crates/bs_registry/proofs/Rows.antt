@@ -16,8 +16,7 @@ use Rattle.bs_registry.specs.declared.blocks.TheConstants.{MOST_STAYS}
 use Rattle.bs_registry.specs.declared.refusal.Refusal.TheVariants as refused
 use Rattle.bs_registry.specs.Stays.{refusal_in_order}
 use Rattle.bs_registry.specs.Blocks.{blocks_of}
-use Rattle.bs_registry.specs.OpenStays.{bears, blocks_in, found_in, is_full_open}
-use Rattle.bs_registry.specs.inner.OpenStays.{are_named_once}
+use Rattle.bs_registry.specs.OpenStays.{are_named_once, bears, blocks_in, found_in, is_full_open}
 use Rattle.bs_registry.specs.Registry.{Listing, before_push, listing_of, row_open, rows_open, with_kept, with_stay}
 use Rattle.bs_registry.proofs.Found.{found_at}
 use Rattle.bs_registry.proofs.NamedOnce.{first_named_once, pushed_named_once, rest_named_once}

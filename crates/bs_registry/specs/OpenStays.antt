@@ -1,6 +1,7 @@
 -- The open stays alone, which decide all that routing needs of a registry: each with the number of
 -- its row, and the number of rows made.
 use Rattle.std.specs.Prelude.{ℕ, ◌+◌, Bool, ◌&&◌, not, if◌then◌else◌, List, [], ◌∷◌, length, sum_by, nat_lt, Option, Some, None}
+use Rattle.bs_board.specs.Distinct.{are_distinct}
 use Rattle.bs_board.specs.declared.limits.TheConstants.{MOST_ROWS}
 use Rattle.bs_board.specs.plans.Plan.{GameRow}
 use Rattle.bs_board.specs.Texts.{is_same_text}
@@ -26,6 +27,10 @@ open_stays_of registry = record { made = length registry; stays = open_of regist
 
 abbrev pub bears : List ℕ → ℕ × GameRow → Bool
 bears name stay = is_same_text name stay.1.game
+
+-- no two have one name
+abbrev pub are_named_once : List (ℕ × GameRow) → Bool
+are_named_once = are_distinct (λ one other. is_same_text one.1.game other.1.game)
 
 -- the number of the open stay of that name
 abbrev pub found_in : List ℕ → List (ℕ × GameRow) → Option ℕ

@@ -2,7 +2,7 @@
 ghost use Rattle.std.specs.Prelude.{◌≡◌, true, not, nat_eq};
 ghost use Rattle.std.specs.List.{filter, list_any, position};
 ghost use Rattle.bs_board.specs.Texts.{is_same_text};
-ghost use Rattle.bs_registry.specs.inner.OpenStays.{are_named_once};
+ghost use Rattle.bs_registry.specs.OpenStays.{are_named_once};
 ghost use Rattle.bs_registry.specs.Registry.{Listing, listing_of, rows_open};
 
 use crate::blocks::{MOST_STAYS, blocks_of};
@@ -87,6 +87,18 @@ impl<T: Drop> Registry<T> {
     {
         Registry {
             made: rows.as_slice().len(),
+            stays,
+            likely: 0,
+        }
+    }
+
+    /// The registry of these open stays among `made` rows.
+    pub fn from_open(made: usize, stays: Vec<Listed<T>>) -> Registry<T>
+        requires { are_named_once (rows_open stays.items) ≡ true }
+        ensures { result ≡ listing_of made stays.items }
+    {
+        Registry {
+            made,
             stays,
             likely: 0,
         }

@@ -69,7 +69,7 @@ rows_made cap core is =
 
 -- a stay that has left is idle, so if no job can be taken in the open stays, none can be taken
 
-quiet_closed : (cap : ℕ) (core : CoreView) (game : ℕ) → IsItsJournal cap core → game < length core.games.lanes → (lane_of core.games.lanes game).is_open ≡ false
+pub quiet_closed : (cap : ℕ) (core : CoreView) (game : ℕ) → IsItsJournal cap core → game < length core.games.lanes → (lane_of core.games.lanes game).is_open ≡ false
     → is_quiet (lane_of core.games.lanes game) ≡ true
 quiet_closed cap core game is within shut =
     let lanes = its_lanes cap core is in

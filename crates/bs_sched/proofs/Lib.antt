@@ -22,6 +22,7 @@ pub mod Journaled
 pub mod KeptRecords
 pub mod Lanes
 pub mod ListedGames
+pub mod ListedStays
 pub mod LoneLanes
 pub mod MemoryLaw
 pub mod MovingGames
@@ -62,9 +63,9 @@ pub mod OpenStays
 pub mod Led
 pub mod OnlyGame
 pub mod Gathered
-pub mod PlacedGame
 pub mod Merged
-pub mod PutTogether
+pub mod ToldStays
+pub mod MergedActs
 pub mod RanAlone
 pub mod StayJobs
 pub mod StayLeaves
@@ -75,6 +76,9 @@ pub mod StaysEnd
 pub mod StaysApart
 pub mod PlayedStays
 pub mod LoneStays
+pub mod GatheredStays
+pub mod StaysTogether
+pub mod CoresAsStays
 pub mod NotedJobs
 pub mod NextParts
 pub mod Behind
@@ -82,3 +86,4 @@ pub mod HereRun
 pub mod HereLanes
 pub mod NextAnswer
 pub mod ShownAnswers
+pub mod UnseenFrames

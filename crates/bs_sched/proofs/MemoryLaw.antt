@@ -463,6 +463,11 @@ sound_shared : (setting : Setting) (rows : List GameRow) (events : List Event) �
     → IsSoundWorld setting.cap setting.blocks (shared_world setting rows events)
 sound_shared setting rows events hosted fit = sound_run setting (opened_world setting rows) events fit (sound_opened setting rows hosted)
 
+-- the reservations are those of the open stays
+pub reserved_shared : (setting : Setting) (rows : List GameRow) (events : List Event) → IsHosted setting rows → All HandsFit events
+    → AreReserved setting.cap setting.blocks (shared_world setting rows events).lanes (shared_world setting rows events).storage.pool.reservations
+reserved_shared setting rows events hosted fit = (sound_shared setting rows events hosted fit).reserved
+
 -- the consequences for the blocks, and for each stay
 
 -- open or not

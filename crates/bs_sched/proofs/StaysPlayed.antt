@@ -11,7 +11,8 @@ use Rattle.bs_board.proofs.Chains.{and_both}
 use Rattle.bs_board.specs.declared.commands.command.Command.{Command}
 use Rattle.bs_board.specs.declared.commands.command.Command.TheVariants as command
 use Rattle.bs_board.specs.plans.Plan.{GameRow}
-use Rattle.bs_heap.specs.Packing.{Packing, no_packing}
+use Rattle.bs_heap.specs.Packing.{no_packing}
+use Rattle.bs_pool.specs.declared.reservation.Reservation.{Reservation}
 use Rattle.bs_pool.specs.Ledger.{ledger_of, size}
 use Rattle.bs_registry.specs.Blocks.{blocks_of}
 use Rattle.bs_registry.specs.Stays.{Stay, closed_stay, is_in, no_stay, open_stay, stay_at, with_admitted, with_closed}
@@ -34,8 +35,9 @@ use Rattle.bs_sched.proofs.LoneLanes.{met, step_enabled}
 use Rattle.bs_sched.proofs.OpenReservations.{lanes_reserved, left_reserved, more_reserved, same_reserved}
 use Rattle.bs_sched.proofs.Registry.{registry_law}
 use Rattle.bs_sched.proofs.Reserved.{rest_of}
-use Rattle.bs_sched.proofs.StayJobs.{all_free, free_before, free_behind, storage_before}
-use Rattle.bs_sched.proofs.StayLeaves.{LeavesBeside, leaves_beside, storage_left}
+use Rattle.bs_sched.proofs.StayJobs.{all_free, free_before, free_behind}
+use Rattle.bs_sched.proofs.StayLeaves.{leaves_beside}
+use Rattle.bs_sched.proofs.ToldStays.{leaves_here, leaves_other, never_again, told_here, told_other}
 
 -- an open stay whose jobs have not begun: these commands and perhaps a leave are to come
 pub record IsWaiting (cap workers : ℕ) (commands : List Command) (leaves : Bool) (x : Lane) (frames : List (Option ℕ)) (stay : PlayedStay) : Type 0 where
@@ -62,21 +64,6 @@ stay_idle cap workers commands leaves x frames stay is =
       | inr shut ↦ let gone = is.gone shut in ap (λ (y : Lane). is_idle y.stage) gone.lane ∙ gone.idle
     ]
 
--- what the acts say of a stay
-
-told_here : (game : ℕ) (command : Command) (acts : List Event) → commands_to game (event.Hand game command ∷ acts) ≡ command ∷ commands_to game acts
-told_here game command acts = rw (eq-eqb game game refl) refl
-
-told_other : (game other : ℕ) (command : Command) (acts : List Event) → (game ≡ other → ⊥)
-    → commands_to other (event.Hand game command ∷ acts) ≡ commands_to other acts
-told_other game other command acts differ = rw (ne_eqb game other differ) refl
-
-leaves_here : (game : ℕ) (acts : List Event) → leaves_in game (event.Leave game ∷ acts) ≡ true
-leaves_here game acts = rw (eq-eqb game game refl) refl
-
-leaves_other : (game other : ℕ) (acts : List Event) → (game ≡ other → ⊥) → leaves_in other (event.Leave game ∷ acts) ≡ leaves_in other acts
-leaves_other game other acts differ = rw (ne_eqb game other differ) refl
-
 same_blanks : (lanes : List Lane) (k : ℕ) (y : Lane) → map (λ (x : Lane). no_packing) (slice_set lanes k y) ≡ map (λ (x : Lane). no_packing) lanes
 same_blanks lanes k y = map-set_same (λ (x : Lane). no_packing) lanes k y no_lane refl
 
@@ -87,39 +74,6 @@ jobs_in_registry row registry (event.Take worker job ∷ journal) = jobs_in_regi
 jobs_in_registry row registry (event.Put worker job ∷ journal) = jobs_in_registry row registry journal
 jobs_in_registry row registry (event.Admit new ∷ journal) = jobs_in_registry row registry journal
 jobs_in_registry row registry (event.Leave game ∷ journal) = jobs_in_registry row registry journal
-
--- after a leave no act names the stay
-
-in_same : (registry other : List Stay) (game : ℕ) → game < length registry → game < length other → stay_at other game ≡ stay_at registry game
-    → is_in registry game ≡ false → is_in other game ≡ false
-in_same registry other game within also same out =
-    rw (lt-ltb game (length other) also) (ap (λ (e : Stay). e.is_open) same ∙ (rw (lt-ltb game (length registry) within) at out))
-
-never_again : (setting : Setting) (registry : List Stay) (game : ℕ) (acts : List Event) → game < length registry → is_in registry game ≡ false
-    → are_acts_in (capacity_of setting) registry acts ≡ true → (commands_to game acts ≡ []) × (leaves_in game acts ≡ false)
-never_again setting registry game [] within out may = (refl, refl)
-never_again setting registry game (event.Hand row command ∷ acts) within out may =
-    let both = and_both _ _ may in
-    let differ : row ≡ game → ⊥ = λ same. let wrong : true ≡ false = sym both.0 ∙ ap (is_in registry) same ∙ out in absurd cc in
-    let later = never_again setting registry game acts within out both.1 in
-    (told_other row game command acts differ ∙ later.0, later.1)
-never_again setting registry game (event.Take worker job ∷ acts) within out may = absurd cc
-never_again setting registry game (event.Put worker job ∷ acts) within out may = absurd cc
-never_again setting registry game (event.Admit row ∷ acts) within out may =
-    let both = and_both _ _ may in
-    let long = length_push registry (open_stay row) in
-    let there : stay_at (with_admitted row registry) game ≡ stay_at registry game = get_or_append_left registry (open_stay row ∷ []) no_stay game within in
-    never_again setting (with_admitted row registry) game acts (omega (arith, long, within))
-    (in_same registry (with_admitted row registry) game within (omega (arith, long, within)) there out) both.1
-never_again setting registry game (event.Leave left ∷ acts) within out may =
-    let both = and_both _ _ may in
-    let differ : left ≡ game → ⊥ = λ same. let wrong : true ≡ false = sym both.0 ∙ ap (is_in registry) same ∙ out in absurd cc in
-    let long = length-set registry left (closed_stay (stay_at registry left)) in
-    let there : stay_at (with_closed left registry) game ≡ stay_at registry game
-    = get_or-set_other registry left game (closed_stay (stay_at registry left)) no_stay (λ same. differ (sym same)) in
-    let later = never_again setting (with_closed left registry) game acts (omega (arith, long, within))
-    (in_same registry (with_closed left registry) game within (omega (arith, long, within)) there out) both.1 in
-    (later.0, leaves_other left game acts differ ∙ later.1)
 
 module _ (cap blocks workers : ℕ) (stays : List PlayedStay) where
   abbrev pub all : Setting
@@ -274,59 +228,67 @@ module _ (cap blocks workers : ℕ) (stays : List PlayedStay) where
   split_at : {X : Type 0} (xs : List X) (k : ℕ) (d : X) → k < length xs → xs ≡ take k xs ++ slice_index_or xs k d ∷ drop (suc k) xs
   split_at xs k d within = sym (set-get_or xs k d) ∙ set_split xs k (slice_index_or xs k d) within
 
+  -- the stay between others, with these frames
+  abbrev storage_between : List Lane → List Lane → List (List (Option ℕ)) → List (List (Option ℕ)) → List Reservation → List (Option ℕ) → Storage
+  storage_between done rest done_frames rest_frames rs f =
+      record {
+        packings = map (λ (z : Lane). no_packing) done ++ no_packing ∷ map (λ (z : Lane). no_packing) rest;
+        frames = done_frames ++ f ∷ rest_frames;
+        pool = ledger_of free_owners rs;
+      }
+
+  leaves_between : (done rest : List Lane) (done_frames rest_frames : List (List (Option ℕ))) (rs : List Reservation) (row : GameRow) (commands : List Command) (core : CoreView)
+      → AreFree done → AreFree rest → length done_frames ≡ length done → RanAlone cap workers row commands core → size core.games.storage.pool ≤ blocks
+      → may_leave (own_lane core) ≡ true
+      → Leads cap all (done ++ queued commands (empty_lane row) ∷ rest) (storage_between done rest done_frames rest_frames rs [])
+      (jobs_at (length done) core.journal ++ event.Leave (length done) ∷ []) (done ++ closed_lane (own_lane core) ∷ rest)
+      (storage_between done rest done_frames rest_frames (rest_of (length done) rs) (own_frames core))
+  leaves_between done rest done_frames rest_frames rs row commands core before behind many_frames alone room may =
+      let enough = all_unowned blocks in
+      let goes = leaves_beside cap workers all refl rs done rest before behind (map (λ (z : Lane). no_packing) done) (map (λ (z : Lane). no_packing) rest) done_frames rest_frames
+      (length-map done (λ (z : Lane). no_packing)) many_frames free_owners row commands core alone (omega (arith, room, enough)) may in
+      record { enabled = goes.enabled; lanes_are = goes.lanes; storage_is = goes.storage }
+
+  -- the same events of the same lanes and storage
+  leads_from : (lanes split : List Lane) (s t : Storage) (n game : ℕ) (journal : List Event) (lanes' : List Lane) (s' : Storage) → lanes ≡ split → s ≡ t → n ≡ game
+      → Leads cap all split t (jobs_at n journal ++ event.Leave n ∷ []) lanes' s' → Leads cap all lanes s (jobs_at game journal ++ event.Leave game ∷ []) lanes' s'
+  leads_from lanes split s t n game journal lanes' s' same stored here goes =
+      subst (λ g. Leads cap all lanes s (jobs_at g journal ++ event.Leave g ∷ []) lanes' s') here
+      (subst (λ ls. Leads cap all ls s (jobs_at n journal ++ event.Leave n ∷ []) lanes' s') (sym same)
+      (subst (λ u. Leads cap all split u (jobs_at n journal ++ event.Leave n ∷ []) lanes' s') (sym stored) goes))
+
   goes_away : (lanes : List Lane) (s : Storage) (game : ℕ) (row : GameRow) (commands : List Command) (core : CoreView) → AreFree lanes → game < length lanes
       → lane_of lanes game ≡ queued commands (empty_lane row) → s.packings ≡ map (λ (x : Lane). no_packing) lanes → length s.frames ≡ length lanes
       → frames_of s game ≡ [] → s.pool ≡ ledger_of free_owners (lanes_reserved cap 0 lanes) → RanAlone cap workers row commands core
       → size core.games.storage.pool ≤ blocks → may_leave (own_lane core) ≡ true → GoesAway lanes s game core
   goes_away lanes s game row commands core free within stands packings long none pool alone room may =
       let x = queued commands (empty_lane row) in
-      let y = own_lane core in
-      let blank : Lane → Packing = λ z. no_packing in
+      let y = closed_lane (own_lane core) in
       let done = take game lanes in
       let rest = drop (suc game) lanes in
+      let done_frames = take game s.frames in
+      let rest_frames = drop (suc game) s.frames in
       let rs = lanes_reserved cap 0 lanes in
       let lanes_split : lanes ≡ done ++ x ∷ rest = split_at lanes game no_lane within ∙ ap (λ z. done ++ z ∷ rest) stands in
       let all_free_here : AreFree (done ++ x ∷ rest) = subst AreFree lanes_split free in
-      let before = free_before done rest x all_free_here in
-      let behind = free_behind done rest x all_free_here in
       let here : length done ≡ game = length-take-le game lanes (omega (arith, within)) in
-      let done_packings = map blank done in
-      let rest_packings = map blank rest in
-      let done_frames = take game s.frames in
-      let rest_frames = drop (suc game) s.frames in
-      let many_packings : length done_packings ≡ length done = length-map done blank in
       let frames_here : length done_frames ≡ game = length-take-le game s.frames (omega (arith, within, long)) in
-      let many_frames : length done_frames ≡ length done = frames_here ∙ sym here in
       let framed : s.frames ≡ done_frames ++ [] ∷ rest_frames
       = split_at s.frames game [] (omega (arith, within, long)) ∙ ap (λ f. done_frames ++ f ∷ rest_frames) none in
-      let packed : s.packings ≡ done_packings ++ no_packing ∷ rest_packings
-      = packings ∙ ap (map blank) lanes_split ∙ map-append blank done (x ∷ rest) in
-      let start : s ≡ storage_before cap workers all refl rs done rest before behind done_packings rest_packings done_frames rest_frames many_packings many_frames free_owners
-      = ap (λ ps. record { packings = ps; frames = s.frames; pool = s.pool }) packed
-      ∙ ap (λ fs. record { packings = done_packings ++ no_packing ∷ rest_packings; frames = fs; pool = s.pool }) framed
-      ∙ ap (λ l. record { packings = done_packings ++ no_packing ∷ rest_packings; frames = done_frames ++ [] ∷ rest_frames; pool = l }) pool in
-      let enough = all_unowned blocks in
-      let goes : LeavesBeside cap workers all refl rs done rest before behind done_packings rest_packings done_frames rest_frames many_packings many_frames free_owners row commands core
-      = leaves_beside cap workers all refl rs done rest before behind done_packings rest_packings done_frames rest_frames many_packings many_frames free_owners row commands core
-      alone (omega (arith, room, enough)) may in
-      let end = storage_left cap workers all refl rs done rest before behind done_packings rest_packings done_frames rest_frames many_packings many_frames free_owners
-      (own_frames core) in
-      let there : Leads cap all (done ++ x ∷ rest)
-      (storage_before cap workers all refl rs done rest before behind done_packings rest_packings done_frames rest_frames many_packings many_frames free_owners)
-      (jobs_at (length done) core.journal ++ event.Leave (length done) ∷ []) (done ++ closed_lane y ∷ rest) end
-      = record { enabled = goes.enabled; lanes_are = goes.lanes; storage_is = goes.storage } in
+      let packed : s.packings ≡ map (λ (z : Lane). no_packing) done ++ no_packing ∷ map (λ (z : Lane). no_packing) rest
+      = packings ∙ ap (map (λ (z : Lane). no_packing)) lanes_split ∙ map-append (λ (z : Lane). no_packing) done (x ∷ rest) in
+      let start : s ≡ storage_between done rest done_frames rest_frames rs [] = (λ i. record { packings = packed i; frames = framed i; pool = pool i }) in
+      let goes = leaves_between done rest done_frames rest_frames rs row commands core (free_before done rest x all_free_here) (free_behind done rest x all_free_here)
+      (frames_here ∙ sym here) alone room may in
       record {
-        lanes' = done ++ closed_lane y ∷ rest;
-        s' = end;
-        lanes_are = sym (set_split lanes game (closed_lane y) within);
+        lanes' = done ++ y ∷ rest;
+        s' = storage_between done rest done_frames rest_frames (rest_of (length done) rs) (own_frames core);
+        lanes_are = sym (set_split lanes game y within);
         packings = sym packed;
         frames = sym (set_split s.frames game (own_frames core) (omega (arith, within, long)));
         pool = ap (λ g. ledger_of free_owners (rest_of g rs)) here;
-        leads =
-            subst (λ g. Leads cap all lanes s (jobs_at g core.journal ++ event.Leave g ∷ []) (done ++ closed_lane y ∷ rest) end) here
-            (subst (λ ls. Leads cap all ls s (jobs_at (length done) core.journal ++ event.Leave (length done) ∷ []) (done ++ closed_lane y ∷ rest) end) (sym lanes_split)
-            (subst (λ t. Leads cap all (done ++ x ∷ rest) t (jobs_at (length done) core.journal ++ event.Leave (length done) ∷ []) (done ++ closed_lane y ∷ rest) end) (sym start)
-            there));
+        leads = leads_from lanes (done ++ x ∷ rest) s (storage_between done rest done_frames rest_frames rs []) (length done) game core.journal (done ++ y ∷ rest)
+            (storage_between done rest done_frames rest_frames (rest_of (length done) rs) (own_frames core)) lanes_split start here goes;
       }
 
   -- events that lead from one such state to another

@@ -25,6 +25,7 @@ pub mod PlanBlocks
 pub mod Putting
 pub mod SharedMemory
 pub mod StaysApart
+pub mod StaysHeld
 pub mod Storage
 pub mod Taking
 pub mod inner

@@ -1,72 +1,65 @@
-//! Cores of one row each, put together to the core of all rows: no event and no record is copied.
-ghost use Rattle.std.specs.Prelude.{◌≡◌, ◌+◌, List, ◌≤◌, length, IfOk};
+//! Stays that were played alone, put together to the core of all of them: no event and no record is
+//! copied.
+ghost use Rattle.std.specs.Prelude.{◌≡◌, ◌+◌, List, ◌≤◌, length, map, IfOk};
 ghost use Rattle.bs_sched.specs.Assembly.{Hand, IsOrderOf, RanApart, RanInOrder, assembled, setting_with};
 ghost use Rattle.bs_sched.specs.Core.{without_tallies};
 ghost use Rattle.bs_registry.specs.Blocks.{blocks_of_all};
+ghost use Rattle.bs_sched.specs.LoneStay.{kept_of_core};
 ghost use Rattle.bs_sched.specs.SharedMemory.{IsHosted};
-ghost use Rattle.bs_sched.specs.inner.Assembling.{AreNext, IsNext, gathered_from, gathered_of, gathered_with};
+ghost use Rattle.bs_sched.specs.StaysApart.{PlayedStay, stays_assembled};
+ghost use Rattle.bs_sched.specs.StaysHeld.{AreHeld, WerePlayed, blocks_held};
+ghost use Rattle.bs_sched.specs.declared.event.Event.{Event};
+ghost use Rattle.bs_sched.specs.inner.LoneStays.{HaveOneStay, hand_steps};
 
 use crate::cores::{Core, MOST_WORKERS};
-use crate::game::Game;
 use crate::games::Games;
+use crate::gathering::{GatheredStays, gather_stays};
 use crate::journal::Journal;
-use crate::merging::Left;
-use crate::plan_blocks::record_tag;
+use crate::lone_stay::LoneStay;
 use crate::sharing::Shared;
+use crate::step::Step;
+use bs_block::Block;
+use bs_board::Rows;
 use bs_pool::Assembly;
 use std::alloc::{AllocError, Global};
 
-/// The games, the journals and the blocks of the cores so far.
+/// What is left of a newly opened core, all whose stays are played in cores of their own.
 #[derive(Drop)]
-struct Gathered<const CAP: usize> {
-    list: Vec<Game<CAP>>,
-    journals: Vec<Left>,
-    assembly: Assembly<CAP>,
+pub struct Rest<const CAP: usize> {
+    /// The rows of its plan.
+    pub rows: Rows,
+    /// The number of its last worker.
+    pub workers: usize,
+    /// The number of its blocks.
+    pub blocks: usize,
+    /// The blocks that no stay has.
+    pub free: Vec<Block<CAP>>,
 }
 
-impl<const CAP: usize> Gathered<CAP> {
-    /// Adds the core of that row, the next one: its game gets the row, and its blocks the free
-    /// numbers in order. The error is the allocator's.
-    fn with_core(self, alloc: Global, row: usize, core: Core<CAP>) -> Result<Self, AllocError>
-        requires { IsNext row core (gathered_of self.list.items self.journals.items self.assembly) }
-        ensures { IfOk result (λ done. gathered_of done.list.items done.journals.items done.assembly
-            ≡ gathered_with row core.entry (gathered_of self.entry.list.items self.entry.journals.items self.entry.assembly)) }
-    {
-        let Gathered {
-            mut list,
-            mut journals,
-            assembly,
-        } = self;
-        let _events = core.journal();
-        let (games, journal) = core.into_games_and_journal();
-        let (mut game, pool) = games.into_only();
-        let (assembly, numbers) = assembly.lay(alloc, pool, record_tag(row))?;
-        game.rename(row, numbers.as_slice());
-        list.push(game)?;
-        journals.push(Left::new(journal.into_vec(alloc)?))?;
-        Ok(Gathered {
-            list,
-            journals,
-            assembly,
-        })
-    }
-}
-
-/// Gathers the cores, the first of which has row 0.
-fn gather<const CAP: usize>(
+/// The stays of cores of one stay each.
+fn into_stays<const CAP: usize>(
     alloc: Global,
-    mut gathered: Gathered<CAP>,
-    mut cores: Vec<Core<CAP>>,
-) -> Result<Gathered<CAP>, AllocError>
-    requires { AreNext 0 cores.items (gathered_of gathered.list.items gathered.journals.items gathered.assembly) }
-    ensures { IfOk result (λ done. gathered_of done.list.items done.journals.items done.assembly
-        ≡ gathered_from 0 cores.entry.items (gathered_of gathered.entry.list.items gathered.entry.journals.items gathered.entry.assembly)) }
+    cores: Vec<Core<CAP>>,
+) -> Result<Vec<LoneStay<CAP>>, AllocError>
+    requires { HaveOneStay cores.items }
+    ensures { IfOk result (λ stays. stays.items ≡ map kept_of_core cores.entry.items) }
 {
-    for row in 0..cores.len() {
-        let core = cores.remove(0);
-        gathered = gathered.with_core(alloc, row, core)?;
+    let mut stays = Vec::with_capacity(alloc, cores.len())?;
+    for core in cores {
+        stays.push(core.into_lone())?;
     }
-    Ok(gathered)
+    Ok(stays)
+}
+
+/// Commands for stays of these rows.
+fn steps_of(alloc: Global, order: &[u32]) -> Result<Vec<Step>, AllocError>
+    ensures { IfOk result (λ steps. steps.items ≡ hand_steps order.now) }
+{
+    let mut steps = Vec::with_capacity(alloc, order.len())?;
+    for row in order {
+        steps.push(Step::Hand(*row))?;
+    }
+    Ok(steps)
 }
 
 impl<const CAP: usize> Core<CAP> {
@@ -89,16 +82,50 @@ impl<const CAP: usize> Core<CAP> {
             cores,
             rest,
         } = shared;
-        let start = Gathered {
-            list: Vec::with_capacity(alloc, cores.len())?,
-            journals: Vec::with_capacity(alloc, cores.len())?,
-            assembly: Assembly::new(alloc, blocks, rest)?,
+        let order = steps_of(alloc, order.as_slice())?;
+        let stays = into_stays(alloc, cores)?;
+        let rest = Rest {
+            rows,
+            workers,
+            blocks,
+            free: rest,
         };
-        let Gathered {
+        Core::assemble_stays(alloc, rest, stays, order)
+    }
+
+    /// Puts stays together to the core of all of them, once each was played alone: those of the
+    /// plan, then the admitted ones. The blocks of the stays that left are among `rest.free` again.
+    /// The acts of the file are in `order`. The error is the allocator's.
+    pub fn assemble_stays(
+        alloc: Global,
+        rest: Rest<CAP>,
+        stays: Vec<LoneStay<CAP>>,
+        order: Vec<Step>,
+    ) -> Result<Self, AllocError>
+        requires workers { rest.workers ≤ MOST_WORKERS }
+        requires hosted { IsHosted (setting_with CAP rest.blocks rest.workers) rest.rows }
+        requires blocks { length rest.free.items + blocks_held stays.items ≡ rest.blocks }
+        requires held { AreHeld CAP rest.blocks rest.workers rest.rows stays.items order.items }
+        ensures { IfOk result (λ core. (acts : List Event) (played : List PlayedStay)
+            → WerePlayed CAP rest.entry.blocks rest.entry.workers rest.entry.rows stays.entry.items order.items acts played
+            → without_tallies core ≡ stays_assembled rest.entry.blocks rest.entry.workers rest.entry.rows acts played) }
+    {
+        let Rest {
+            rows,
+            workers,
+            blocks,
+            free,
+        } = rest;
+        let start = GatheredStays {
+            list: Vec::with_capacity(alloc, stays.len())?,
+            journals: Vec::with_capacity(alloc, stays.len())?,
+            assembly: Assembly::new(alloc, blocks, free)?,
+        };
+        let GatheredStays {
             list,
             journals,
             assembly,
-        } = gather(alloc, start, cores)?;
+        } = gather_stays(alloc, start, stays)?;
         let journal = Journal::unmerged(alloc, order, journals);
         let pool = assembly.finish(alloc)?;
         let games = Games::of_list(alloc, rows, workers, list, pool)?;

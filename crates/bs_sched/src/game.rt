@@ -584,8 +584,8 @@ impl<const CAP: usize> Game<CAP> {
         answer_expected(alloc, planes, &expected)
     }
 
-    /// Answers the next command at once, with that cache of its plane. While the records change, a
-    /// block is drawn for each part that its move would have. After an error nothing is changed.
+    /// Answers the next command at once, with that cache of its plane. While the records change,
+    /// that many frame blocks are drawn. After an error nothing is changed.
     fn answer_with(
         &mut self,
         alloc: Global,
@@ -616,6 +616,24 @@ impl<const CAP: usize> Game<CAP> {
         Ok(())
     }
 
+    /// How many frame blocks to draw while the records change: none where the record lies in the
+    /// current block, since the blocks that are drawn then are given back unseen.
+    fn frames_to_draw(&self, pool: &Pool<CAP>, parts: usize) -> usize
+        requires ready { is_ready self.now.lane kind.Begin 0 ≡ true }
+        requires few { parts ≤ 4 }
+        requires blocks { HasBlocks CAP self.now pool.now }
+        ensures few { result ≤ 4 }
+        ensures game { game_here CAP (number_behind self.now.frames.tag result pool.now) self.now ≡ game_here CAP (number_behind self.now.frames.tag parts pool.now) self.now }
+        ensures pool { pool_here CAP result self.now pool.now ≡ pool_here CAP parts self.now pool.now }
+    {
+        if !self.heap.has_room() {
+            return parts;
+        }
+        self.fiber.keeps();
+        let _sound = pool.size();
+        0
+    }
+
     /// Answers the next command at once. After an error nothing is changed.
     pub(crate) fn answer_here(
         &mut self,
@@ -634,11 +652,12 @@ impl<const CAP: usize> Game<CAP> {
         ensures err { OnErr result (self.new ≡ self.old) }
         ensures err_pool { OnErr result (pool.new ≡ pool.old) }
     {
+        let frames = self.frames_to_draw(pool, parts);
         let mut planes = match self.planes.take() {
             Some(planes) => planes,
             None => Box::new(alloc, PlaneCache::new(alloc))?,
         };
-        let answered = self.answer_with(alloc, pool, &mut planes, parts);
+        let answered = self.answer_with(alloc, pool, &mut planes, frames);
         self.planes = Some(planes);
         answered
     }

@@ -9,7 +9,9 @@ ghost use Rattle.bs_sched.specs.Games.{after, opened, KeepsTallies, games_taken,
 ghost use Rattle.bs_sched.specs.inner.LoneStays.{HasOneStay};
 ghost use Rattle.bs_sched.specs.inner.Games.{games_completed};
 ghost use Rattle.bs_sched.specs.inner.GamesLayout.{lanes_in, numbers_in, opened_games};
-ghost use Rattle.bs_sched.specs.inner.Assembling.{AreLedTo, ArePlaced, IsOnly, games_of};
+ghost use Rattle.bs_sched.specs.inner.Assembling.{ArePlaced, IsOnly, games_of};
+ghost use Rattle.bs_sched.specs.inner.Journal.{core_of};
+ghost use Rattle.bs_sched.specs.Journal.{IsItsJournal};
 ghost use Rattle.bs_sched.specs.declared.event.Event.{Event};
 ghost use Rattle.bs_sched.specs.Lane.{answered, is_quiet, is_ready, is_out, lane_view, lane_command, may_leave};
 ghost use Rattle.bs_sched.specs.inner.Lane.{HasNoneReady};
@@ -17,11 +19,11 @@ ghost use Rattle.bs_sched.specs.Machine.{lane_of, may_admit};
 ghost use Rattle.bs_sched.specs.declared.event.Event.TheVariants as event;
 ghost use Rattle.bs_block.specs.Bytes.{IsCapacity};
 ghost use Rattle.bs_registry.specs.Blocks.{blocks_of, blocks_of_all};
-ghost use Rattle.bs_registry.specs.OpenStays.{bears};
-ghost use Rattle.bs_registry.specs.Registry.{rows_in, with_stay};
+ghost use Rattle.bs_registry.specs.OpenStays.{bears, open_of};
+ghost use Rattle.bs_registry.specs.Registry.{rows_in, rows_open, with_stay};
 ghost use Rattle.bs_registry.specs.Stays.{first_refusal};
 ghost use Rattle.bs_sched.specs.Registry.{capacity_of, registry_of};
-ghost use Rattle.bs_sched.specs.PlanBlocks.{reservations_of, with_row};
+ghost use Rattle.bs_sched.specs.PlanBlocks.{with_row};
 ghost use Rattle.bs_sched.specs.declared.opening.Open.TheVariants as cause;
 ghost use Rattle.bs_fiber.specs.Tickets.{IsFresh, bytes_of, frames_in, names_of, worked_bytes};
 ghost use Rattle.bs_sched.specs.Answering.{AreNextParts, answer_events, begun};
@@ -101,6 +103,27 @@ fn open_games<const CAP: usize>(alloc: Global, rows: &[Row]) -> Result<Vec<Game<
         games.push(Game::new(alloc, game, row.copy(alloc)?)?)?;
     }
     Ok(games)
+}
+
+/// Lists the open stays.
+#[tactic(auto, using(crate::proofs::ListedStays::one_more, crate::proofs::ListedStays::none_more, crate::proofs::ListedStays::all_open))]
+fn list_open<const CAP: usize>(
+    alloc: Global,
+    games: &[Game<CAP>],
+) -> Result<Vec<Listed<()>>, AllocError>
+    ensures { IfOk result (λ stays. rows_open stays.items ≡ open_of (registry_of (lanes_in games.now))) }
+{
+    let mut stays = Vec::new(alloc);
+    for number in 0..games.len() {
+        if games[number].is_open() {
+            stays.push(Listed {
+                number,
+                row: games[number].row().copy(alloc)?,
+                kept: (),
+            })?;
+        }
+    }
+    Ok(stays)
 }
 
 /// A ready job of the stay of that row, if there is one.
@@ -330,8 +353,7 @@ impl<const CAP: usize> Games<CAP> {
         })
     }
 
-    /// Makes the games of a plan of stays without a job in progress, to which events of the stays
-    /// lead, none of which has left.
+    /// Makes the games of stays to which events lead: those of the plan, then the admitted ones.
     #[tactic(auto, using(crate::proofs::ListedGames::many_lanes))]
     pub(crate) fn of_list(
         alloc: Global,
@@ -341,12 +363,12 @@ impl<const CAP: usize> Games<CAP> {
         pool: Pool<CAP>,
     ) -> Result<Self, AllocError>
         requires workers { workers ≤ MOST_WORKERS }
-        requires led { (events : List Event) × AreLedTo CAP (games_of rows workers list.items pool) events }
+        requires led { (events : List Event) × IsItsJournal CAP (core_of (games_of rows workers list.items pool) events) }
         requires placed { ArePlaced list.items }
-        requires reserved { pool.reservations ≡ reservations_of CAP rows }
         ensures { IfOk result (λ games. games ≡ games_of rows workers list.entry.items pool.entry) }
     {
-        let registry = open_rows(alloc, &rows)?;
+        let stays = list_open(alloc, list.as_slice())?;
+        let registry = Registry::from_open(list.len(), stays);
         Ok(Games {
             rows,
             workers: workers as u32,

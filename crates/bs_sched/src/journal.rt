@@ -4,6 +4,7 @@ ghost use Rattle.bs_sched.specs.inner.Merging.{merged};
 
 use crate::event::Event;
 use crate::merging::{Left, merge, share_all, share_onto};
+use crate::step::Step;
 use bs_registry::MOST_STAYS;
 use std::alloc::{AllocError, Global};
 use std::marker::Model;
@@ -11,8 +12,8 @@ use std::marker::Model;
 /// The journals of the cores of one row each that a core was put together of.
 #[derive(Drop)]
 struct Unmerged {
-    /// The row of each command, in the order of the file.
-    order: Vec<u32>,
+    /// The acts of the file.
+    order: Vec<Step>,
     /// The journal of each row's core.
     lefts: Vec<Left>,
 }
@@ -49,9 +50,9 @@ impl Journal {
         }
     }
 
-    /// The journal of a core that was put together: first a hand for each row of the order, then
-    /// the jobs of each row's journal.
-    pub(crate) fn unmerged(alloc: Global, order: Vec<u32>, lefts: Vec<Left>) -> Self
+    /// The journal of a core that was put together: first the acts in their order, before each
+    /// leave the jobs of the stay that leaves, then the jobs of the other stays.
+    pub(crate) fn unmerged(alloc: Global, order: Vec<Step>, lefts: Vec<Left>) -> Self
         requires { length lefts.items ≤ MOST_STAYS }
         ensures events { result.events ≡ merged order.items lefts.items }
         ensures room { result.used ≤ result.room }

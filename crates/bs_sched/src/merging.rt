@@ -1,14 +1,17 @@
 //! The journals of cores of one row each, merged to the journal of the core of all rows.
-ghost use Rattle.std.specs.Prelude.{◌≡◌, ◌++◌, [], drop, ◌<◌, ◌≤◌, length, option_to_list, slice_index_or, IfOk, OnOk};
+ghost use Rattle.std.specs.Prelude.{◌≡◌, ◌++◌, ◌∷◌, [], drop, ◌<◌, ◌≤◌, length, option_to_list, slice_index_or, slice_set, IfOk, OnOk};
 ghost use Rattle.bs_sched.specs.Assembly.{job_at, job_event, jobs_at};
-ghost use Rattle.bs_sched.specs.inner.Merging.{all_jobs, first_event, first_hand, hand_at, hands_taken, lefts_after, merged, taken_from};
+ghost use Rattle.bs_sched.specs.declared.event.Event.TheVariants as event;
+ghost use Rattle.bs_sched.specs.inner.Merging.{act_taken, acts_taken, all_jobs, first_event, first_hand, hand_at, lefts_after, lefts_then, merged, taken_from};
 
 use crate::event::Event;
+use crate::step::Step;
 use bs_fiber::JobName;
 use bs_registry::MOST_STAYS;
 use std::alloc::{AllocError, Global};
 use std::collections::VecDeque;
 use std::marker::Model;
+use std::mem::replace;
 
 /// The job with another row.
 fn job_at(row: usize, job: JobName) -> JobName
@@ -144,17 +147,69 @@ fn move_hand(lefts: &mut Vec<Left>, row: u32, journal: &mut Vec<Event>) -> Resul
     Ok(())
 }
 
-/// Moves a hand for each row of the order.
-fn move_hands(
+/// Removes and returns what is left of that row's journal.
+fn take_left(alloc: Global, lefts: &mut Vec<Left>, row: usize) -> Left
+    requires { row < length lefts.old.items }
+    ensures left { result ≡ slice_index_or lefts.old.items row [] }
+    ensures lefts { lefts.new.items ≡ slice_set lefts.old.items row [] }
+{
+    replace(&mut lefts[row], Left::new(Vec::new(alloc)))
+}
+
+/// Moves the jobs that are left for a stay to the end of the whole's, and appends its leave.
+/// Nothing is left of its journal.
+fn move_leave(
+    alloc: Global,
     lefts: &mut Vec<Left>,
-    order: &[u32],
+    row: u32,
     journal: &mut Vec<Event>,
 ) -> Result<(), AllocError>
-    ensures journal { OnOk result (journal.new.items ≡ journal.old.items ++ hands_taken order.now lefts.old.items) }
+    requires { length lefts.old.items ≤ MOST_STAYS }
+    ensures journal { OnOk result (journal.new.items
+        ≡ journal.old.items ++ (jobs_at row (slice_index_or lefts.old.items row []) ++ event.Leave row ∷ [])) }
+    ensures lefts { OnOk result (lefts.new.items ≡ slice_set lefts.old.items row []) }
+{
+    let at = row as usize;
+    if at < lefts.len() {
+        take_left(alloc, lefts, at).move_jobs(at, journal)?;
+    }
+    journal.push(Event::Leave(row))?;
+    Ok(())
+}
+
+/// Moves the events of an act to the end of the whole's.
+fn move_step(
+    alloc: Global,
+    lefts: &mut Vec<Left>,
+    step: &Step,
+    journal: &mut Vec<Event>,
+) -> Result<(), AllocError>
+    requires { length lefts.old.items ≤ MOST_STAYS }
+    ensures journal { OnOk result (journal.new.items ≡ journal.old.items ++ act_taken step.now lefts.old.items) }
+    ensures lefts { OnOk result (lefts.new.items ≡ lefts_then step.now lefts.old.items) }
+{
+    match step {
+        Step::Hand(row) => move_hand(lefts, *row, journal)?,
+        Step::Admit(row) => journal.push(Event::Admit(row.share()?))?,
+        Step::Leave(row) => move_leave(alloc, lefts, *row, journal)?,
+    }
+    Ok(())
+}
+
+/// Moves the events of each act of the order.
+#[tactic(auto, using(crate::proofs::Merged::many_then))]
+fn move_steps(
+    alloc: Global,
+    lefts: &mut Vec<Left>,
+    order: &[Step],
+    journal: &mut Vec<Event>,
+) -> Result<(), AllocError>
+    requires { length lefts.old.items ≤ MOST_STAYS }
+    ensures journal { OnOk result (journal.new.items ≡ journal.old.items ++ acts_taken order.now lefts.old.items) }
     ensures lefts { OnOk result (lefts.new.items ≡ lefts_after order.now lefts.old.items) }
 {
-    for row in order {
-        move_hand(lefts, *row, journal)?;
+    for step in order {
+        move_step(alloc, lefts, step, journal)?;
     }
     Ok(())
 }
@@ -181,17 +236,30 @@ fn count_events(lefts: &[Left]) -> usize {
     count
 }
 
-/// Merges the journals of the cores: first a hand for each row of the order, then the jobs.
+/// The number of admissions and leaves.
+fn count_changes(order: &[Step]) -> usize {
+    let mut count = 0usize;
+    for step in order {
+        if !matches!(step, Step::Hand(_)) {
+            count = count.saturating_add(1);
+        }
+    }
+    count
+}
+
+/// Merges the journals of the cores: first the acts in their order, before each leave the jobs of
+/// the stay that leaves, then the jobs that are left.
 pub(crate) fn merge(
     alloc: Global,
     mut lefts: Vec<Left>,
-    order: &[u32],
+    order: &[Step],
 ) -> Result<Vec<Event>, AllocError>
     requires { length lefts.items ≤ MOST_STAYS }
     ensures { IfOk result (λ journal. journal.items ≡ merged order.now lefts.items) }
 {
-    let mut journal = Vec::with_capacity(alloc, count_events(lefts.as_slice()))?;
-    move_hands(&mut lefts, order, &mut journal)?;
+    let events = count_events(lefts.as_slice()).saturating_add(count_changes(order));
+    let mut journal = Vec::with_capacity(alloc, events)?;
+    move_steps(alloc, &mut lefts, order, &mut journal)?;
     move_all_jobs(lefts, &mut journal)?;
     Ok(journal)
 }

@@ -180,6 +180,19 @@ fn quota_of_two_records(rt: HostRuntime) -> Result<(), Fail> {
     use_quota(&mut heap, &mut pool)
 }
 
+/// A heap without a block has no room, a new block has it, and one that is half full has not.
+#[test]
+fn room_for_the_largest_record(rt: HostRuntime) -> Result<(), Fail> {
+    let mut pool = Pool::<278_528>::open(rt.alloc(), 20)?;
+    let mut heap = open_heap(rt.alloc(), &mut pool, 1, 300_000)?;
+    same("room without a block", heap.has_room(), false)?;
+    add(&mut heap, &mut pool, &[1; 26])?;
+    same("room in a new block", heap.has_room(), true)?;
+    let half = bytes(rt.alloc(), 5, 150_000)?;
+    add(&mut heap, &mut pool, &half)?;
+    same("room in a block that is half full", heap.has_room(), false)
+}
+
 /// Drops all records but the last of a heap of tag 1, and then this one too.
 fn keep_last_and_free<const CAP: usize>(
     heap: &mut TagHeap<CAP>,

@@ -1,6 +1,6 @@
 //! The registry of open stays, call by call.
 use bs_board::Id;
-use bs_registry::{Refusal, Registry, open_rows};
+use bs_registry::{Listed, Refusal, Registry, open_rows};
 use bs_samples::{holds, plan_of, row, same};
 use std::alloc::Global;
 use std::test::Fail;
@@ -91,6 +91,24 @@ fn the_rows_of_a_plan_are_open(rt: HostRuntime) -> Result<(), Fail> {
     check_find(alloc, &mut stays, "b", Some(1))?;
     check_find(alloc, &mut stays, "a", Some(0))?;
     check_find(alloc, &mut stays, "c", None)
+}
+
+/// Of six rows that of number 4 alone is open. The next stay has number 6.
+#[test]
+fn a_registry_is_made_of_open_stays(rt: HostRuntime) -> Result<(), Fail> {
+    let alloc = rt.alloc();
+    let mut open = Vec::new(alloc);
+    open.push(Listed {
+        number: 4,
+        row: row(alloc, "a", 64)?,
+        kept: 7u8,
+    })?;
+    let mut stays = Registry::from_open(6, open);
+    same("made", stays.made(), 6)?;
+    check_find(alloc, &mut stays, "a", Some(4))?;
+    check_admit(alloc, &mut stays, "a", Some(Refusal::NameOpen))?;
+    check_admit(alloc, &mut stays, "b", None)?;
+    check_find(alloc, &mut stays, "b", Some(6))
 }
 
 #[test]

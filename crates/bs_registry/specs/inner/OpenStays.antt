@@ -1,9 +1,7 @@
 -- What private contracts add to specs/OpenStays.
 use Rattle.std.specs.Prelude.{◌≡◌, ℕ, ◌-◌, Bool, ◌&&◌, not, List, [], ◌∷◌, ◌++◌, length, slice_index_or, count_by, nat_eq, nat_lt, Option}
 use Rattle.std.specs.List.{filter, list_any, position}
-use Rattle.bs_board.specs.Distinct.{are_distinct}
 use Rattle.bs_board.specs.plans.Plan.{GameRow, row_of}
-use Rattle.bs_board.specs.Texts.{is_same_text}
 use Rattle.bs_registry.specs.Blocks.{blocks_of}
 use Rattle.bs_registry.specs.OpenStays.{OpenStayList, bears, blocks_in, found_in, is_full_open, open_of}
 use Rattle.bs_registry.specs.Stays.{Capacity, Stay, blocks_in_registry, has_name, refusal_in_order, with_admitted, with_closed}
@@ -12,10 +10,6 @@ use Rattle.bs_registry.specs.declared.refusal.Refusal.{Refusal}
 -- of a stay of which only the row matters
 abbrev pub nothing_kept : GameRow → Unit {0}
 nothing_kept row = tt
-
--- no two have one name
-abbrev pub are_named_once : List (ℕ × GameRow) → Bool
-are_named_once = are_distinct (λ one other. is_same_text one.1.game other.1.game)
 
 -- whether one of that name is at that index
 abbrev pub is_named_at : List ℕ → ℕ → List (ℕ × GameRow) → Bool

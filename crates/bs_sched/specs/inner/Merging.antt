@@ -4,6 +4,8 @@ use Rattle.bs_registry.specs.declared.blocks.TheConstants.{MOST_STAYS}
 use Rattle.bs_sched.specs.declared.event.Event.{Event}
 use Rattle.bs_sched.specs.declared.event.Event.TheVariants as event
 use Rattle.bs_sched.specs.declared.journal.Unmerged.{Unmerged}
+use Rattle.bs_sched.specs.declared.step.Step.{Step}
+use Rattle.bs_sched.specs.declared.step.Step.TheVariants as step
 use Rattle.bs_sched.specs.declared.journal.Journal.TheInside.{Inside}
 use Rattle.bs_sched.specs.Assembly.{jobs_at}
 use Rattle.bs_sched.specs.Events.{JournalView}
@@ -27,22 +29,35 @@ first_hand row events = option_and_then (hand_at row) (first_event events)
 abbrev pub taken_from : ℕ → List (List Event) → List (List Event)
 taken_from row lefts = slice_set lefts row (drop 1 (slice_index_or lefts row []))
 
--- a hand for each row of the order
-abbrev pub hands_taken : List ℕ → List (List Event) → List Event
-hands_taken [] lefts = []
-hands_taken (row ∷ order) lefts = option_to_list (first_hand row (slice_index_or lefts row [])) ++ hands_taken order (taken_from row lefts)
+-- the events of an act: its command, from the journal of its stay, or the jobs of the stay that
+-- leaves, and its leave
+abbrev pub act_taken : Step → List (List Event) → List Event
+act_taken (step.Hand row) lefts = option_to_list (first_hand row (slice_index_or lefts row []))
+act_taken (step.Admit row) lefts = event.Admit row ∷ []
+act_taken (step.Leave row) lefts = jobs_at row (slice_index_or lefts row []) ++ event.Leave row ∷ []
 
-abbrev pub lefts_after : List ℕ → List (List Event) → List (List Event)
+-- what is left after it: nothing for a stay that leaves
+abbrev pub lefts_then : Step → List (List Event) → List (List Event)
+lefts_then (step.Hand row) lefts = taken_from row lefts
+lefts_then (step.Admit row) lefts = lefts
+lefts_then (step.Leave row) lefts = slice_set lefts row []
+
+-- those of each act of the order
+abbrev pub acts_taken : List Step → List (List Event) → List Event
+acts_taken [] lefts = []
+acts_taken (act ∷ order) lefts = act_taken act lefts ++ acts_taken order (lefts_then act lefts)
+
+abbrev pub lefts_after : List Step → List (List Event) → List (List Event)
 lefts_after [] lefts = lefts
-lefts_after (row ∷ order) lefts = lefts_after order (taken_from row lefts)
+lefts_after (act ∷ order) lefts = lefts_after order (lefts_then act lefts)
 
 -- the jobs of each journal, one after the other; the first is that of this row
 abbrev pub all_jobs : ℕ → List (List Event) → List Event
 all_jobs row [] = []
 all_jobs row (left ∷ lefts) = jobs_at row left ++ all_jobs (suc row) lefts
 
-abbrev pub merged : List ℕ → List (List Event) → List Event
-merged order lefts = hands_taken order lefts ++ all_jobs 0 (lefts_after order lefts)
+abbrev pub merged : List Step → List (List Event) → List Event
+merged order lefts = acts_taken order lefts ++ all_jobs 0 (lefts_after order lefts)
 
 -- the events of the cores that a core was put together of
 abbrev pub unmerged_events : Option Unmerged → List Event

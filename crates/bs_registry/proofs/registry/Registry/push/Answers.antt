@@ -1,7 +1,6 @@
 use Rattle.std.proofs.Common.{◌≡◌, false, ap, ◌∙◌}
 use Rattle.std.specs.List.{list_any}
-use Rattle.bs_registry.specs.OpenStays.{bears}
-use Rattle.bs_registry.specs.inner.OpenStays.{are_named_once}
+use Rattle.bs_registry.specs.OpenStays.{are_named_once, bears}
 use Rattle.bs_registry.specs.Registry.{Listing, rows_in, rows_open}
 use Rattle.bs_registry.proofs.Rows.{pushed_once}
 use Rattle.bs_registry.proofs.registry.Registry.push.Goals as goal

@@ -1,5 +1,5 @@
 use Rattle.std.proofs.Common.{◌-◌, ◌∙◌, ap}
-use Rattle.bs_registry.specs.inner.OpenStays.{are_named_once}
+use Rattle.bs_registry.specs.OpenStays.{are_named_once}
 use Rattle.bs_registry.specs.Registry.{rows_open}
 use Rattle.bs_registry.proofs.Rows.{undone_once}
 use Rattle.bs_registry.proofs.registry.Registry.undo_push.Goals as goal

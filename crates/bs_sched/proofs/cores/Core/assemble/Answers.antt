@@ -1,89 +1,35 @@
--- What is gathered of the cores is the core of all rows.
-use Rattle.std.proofs.Common.{◌≡◌, length, refl, sym, ap, subst, ◌∙◌, arith}
-use Rattle.std.specs.Prelude.{All}
+-- The cores are stays none of which leaves.
+use Rattle.std.proofs.Common.{length, ap, ◌+◌, ◌∙◌, sym, arith}
 use Rattle.std.proofs.lemmas.Result.{IfOk-weaker}
-use Rattle.bs_pool.specs.Ledger.{Ledger}
-use Rattle.bs_sched.specs.Core.{without_tallies}
-use Rattle.bs_sched.specs.Games.{GamesView}
-use Rattle.bs_sched.specs.inner.Assembling.{AreLedTo, games_of}
-use Rattle.bs_sched.specs.inner.Journal.{core_of}
-use Rattle.bs_sched.specs.Journal.{IsItsJournal}
-use Rattle.bs_sched.proofs.Idle.{IsIdle}
-use Rattle.bs_sched.proofs.Merged.{same_rows}
-use Rattle.bs_sched.proofs.PutTogether.{is_whole, next_from}
+use Rattle.bs_sched.specs.StaysHeld.{blocks_held}
+use Rattle.bs_sched.specs.inner.LoneStays.{hand_steps}
+use Rattle.bs_sched.proofs.CoresAsStays.{are_held, are_one, blocks_kept, is_put_together, same_rows}
 use Rattle.bs_sched.proofs.cores.Core.assemble.Goals as goal
 
-pub gather-requires : goal.gather-requires
-gather-requires g c =
+pub into_stays-requires : goal.into_stays-requires
+into_stays-requires g c =
     let s = c.args.shared in
     let given = c.requires.apart in
-    let next = next_from g.row.CAP s.blocks s.workers (length s.rest.items) s.rows c.args.order.items given.hands s.cores.items
-    c.requires.hosted c.requires.rest given.ordered given.within given.apart
-    _ _ _ c.in_ok-with_capacity.ensures.items c.in_ok-with_capacity-2.ensures.items c.in_ok-new.ensures in
-    (omega arith, (omega arith, next))
+    (omega arith, (omega arith, are_one g.row.CAP s.blocks s.workers s.rows c.args.order.items given.hands s.cores.items c.requires.hosted given.ordered given.within given.apart))
 
-pub unmerged-journal-requires : goal.unmerged-journal-requires
-unmerged-journal-requires g c =
+pub assemble_stays-requires : goal.assemble_stays-requires
+assemble_stays-requires g c =
     let s = c.args.shared in
     let given = c.requires.apart in
-    let whole = is_whole g.row.CAP s.blocks s.workers (length s.rest.items) s.rows c.args.order.items given.hands s.cores.items
-    c.requires.hosted c.requires.rest given.ordered given.within given.apart
-    _ _ _ c.in_ok-with_capacity.ensures.items c.in_ok-with_capacity-2.ensures.items c.in_ok-new.ensures
-    _ _ c.in_ok-list.ensures refl in
-    let few = whole.few in
-    omega (arith, few)
-
-pub finish-requires : goal.finish-requires
-finish-requires g c =
-    let s = c.args.shared in
-    let given = c.requires.apart in
-    let whole = is_whole g.row.CAP s.blocks s.workers (length s.rest.items) s.rows c.args.order.items given.hands s.cores.items
-    c.requires.hosted c.requires.rest given.ordered given.within given.apart
-    _ _ _ c.in_ok-with_capacity.ensures.items c.in_ok-with_capacity-2.ensures.items c.in_ok-new.ensures
-    _ _ c.in_ok-list.ensures c.unmerged-journal.ensures.events in
-    (omega arith, (omega arith, whole.none_missing))
-
-pub of_list-requires : goal.of_list-requires
-of_list-requires g c =
-    let s = c.args.shared in
-    let given = c.requires.apart in
-    let whole = is_whole g.row.CAP s.blocks s.workers (length s.rest.items) s.rows c.args.order.items given.hands s.cores.items
-    c.requires.hosted c.requires.rest given.ordered given.within given.apart
-    _ _ _ c.in_ok-with_capacity.ensures.items c.in_ok-with_capacity-2.ensures.items c.in_ok-new.ensures
-    _ _ c.in_ok-list.ensures c.unmerged-journal.ensures.events in
-    let pool = c.in_ok-pool.ensures in
-    let list = c.in_ok-list.field-0.list.items in
-    let events = c.unmerged-journal.result.events in
-    let led = subst (λ (p : Ledger). AreLedTo g.row.CAP (games_of s.rows s.workers list p) events) (sym pool) whole.led in
-    let reserved = ap (λ (p : Ledger). p.reservations) pool ∙ whole.reserved in
-    (omega arith, (omega arith, (omega arith, (c.requires.workers, ((events, led), (whole.placed, reserved))))))
-
-pub of_games-requires : goal.of_games-requires
-of_games-requires g c =
-    let s = c.args.shared in
-    let given = c.requires.apart in
-    let whole = is_whole g.row.CAP s.blocks s.workers (length s.rest.items) s.rows c.args.order.items given.hands s.cores.items
-    c.requires.hosted c.requires.rest given.ordered given.within given.apart
-    _ _ _ c.in_ok-with_capacity.ensures.items c.in_ok-with_capacity-2.ensures.items c.in_ok-new.ensures
-    _ _ c.in_ok-list.ensures c.unmerged-journal.ensures.events in
-    let list = c.in_ok-list.field-0.list.items in
-    let events = c.unmerged-journal.result.events in
-    let games : c.in_ok-games.games ≡ games_of s.rows s.workers list c.in_ok-list.field-0.assembly.ledger
-    = c.in_ok-games.ensures ∙ ap (games_of s.rows s.workers list) c.in_ok-pool.ensures in
-    let journal = subst (λ (v : GamesView). IsItsJournal g.row.CAP (core_of v events)) (sym games) whole.led.journal in
-    (omega arith, (omega arith, (journal, (c.unmerged-journal.ensures.room, subst (λ (v : GamesView). All IsIdle v.lanes) (sym games) whole.idle))))
+    let order = c.in_ok-order.ensures ∙ ap hand_steps c.as_slice.ensures.value in
+    let blocks = ap (λ vs. length s.rest.items + blocks_held vs) c.in_ok-stays.ensures
+    ∙ blocks_kept g.row.CAP s.blocks s.workers s.rows c.args.order.items given.hands s.cores.items c.requires.hosted given.ordered given.within given.apart
+    (length s.rest.items) c.requires.rest in
+    let held = are_held g.row.CAP s.blocks s.workers s.rows c.args.order.items given.hands s.cores.items c.requires.hosted given.ordered given.within given.apart
+    c.in_ok-stays.stays.items c.in_ok-order.order.items c.in_ok-stays.ensures order in
+    (omega arith, (omega arith, (omega arith, (c.requires.workers, (c.requires.hosted, (blocks, held))))))
 
 pub returns : goal.returns
 returns g c =
     let s = c.args.shared in
     let given = c.requires.apart in
-    let list = c.in_ok-list.field-0.list.items in
-    let events = c.unmerged-journal.result.events in
-    let games : c.in_ok-games.games ≡ games_of s.rows s.workers list c.in_ok-list.field-0.assembly.ledger
-    = c.in_ok-games.ensures ∙ ap (games_of s.rows s.workers list) c.in_ok-pool.ensures in
-    IfOk-weaker c.of_games.result _ _ (λ core is hands ordered apart.
-    let whole = is_whole g.row.CAP s.blocks s.workers (length s.rest.items) s.rows c.args.order.items hands s.cores.items
-    c.requires.hosted c.requires.rest ordered (same_rows (length s.rows) hands given.hands (ordered ∙ sym given.ordered) given.within) apart
-    _ _ _ c.in_ok-with_capacity.ensures.items c.in_ok-with_capacity-2.ensures.items c.in_ok-new.ensures
-    _ _ c.in_ok-list.ensures c.unmerged-journal.ensures.events in
-    ap without_tallies (is ∙ ap (λ v. core_of v events) games) ∙ whole.whole) c.of_games.ensures
+    let order = c.in_ok-order.ensures ∙ ap hand_steps c.as_slice.ensures.value in
+    IfOk-weaker c.assemble_stays.result _ _ (λ core is hands ordered apart.
+    is_put_together g.row.CAP s.blocks s.workers s.rows c.args.order.items hands s.cores.items c.requires.hosted ordered
+    (same_rows (length s.rows) hands given.hands (ordered ∙ sym given.ordered) given.within) apart core
+    c.in_ok-stays.stays.items c.in_ok-order.order.items c.in_ok-stays.ensures order is) c.assemble_stays.ensures
