@@ -13,7 +13,6 @@ use Rattle.bs_board.specs.boards.Legal.{IsLegal}
 use Rattle.bs_board.specs.commands.Orders.{Orders}
 use Rattle.bs_board.specs.records.Kept.{IsLegalRecord}
 use Rattle.bs_board.specs.records.Record.{record_of}
-use Rattle.bs_board.proofs.records.BoardRecord.{record_is_of_one_board}
 use Rattle.bs_rules.specs.Turn.{turn_of}
 use Rattle.bs_rules.proofs.TurnLegal.{turn_is_legal}
 use Rattle.bs_game.specs.declared.reply.Answer.{Answer}

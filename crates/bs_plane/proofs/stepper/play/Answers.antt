@@ -1,4 +1,4 @@
-use Rattle.std.proofs.Common.{◌∙◌, arith, subst, sym}
+use Rattle.std.proofs.Common.{arith, subst, sym}
 use Rattle.bs_board.specs.commands.Orders.{Orders}
 use Rattle.bs_board.specs.inner.Orders.{orders_in}
 use Rattle.bs_plane.specs.inner.Turn.{MayStep, Plays}
