@@ -13,20 +13,21 @@ use Rattle.bs_board.specs.boards.Legal.{IsLegal}
 use Rattle.bs_board.specs.commands.Orders.{Orders}
 use Rattle.bs_board.specs.records.Kept.{IsLegalRecord}
 use Rattle.bs_board.specs.records.Record.{record_of}
-use Rattle.bs_board.proofs.records.BoardRecord.{record_is_of_one_board}
 use Rattle.bs_rules.specs.Turn.{turn_of}
 use Rattle.bs_rules.proofs.TurnLegal.{turn_is_legal}
 use Rattle.bs_game.specs.declared.reply.Answer.{Answer}
 use Rattle.bs_game.specs.declared.view.View.{View}
 use Rattle.bs_game.specs.Game.{board_charge}
+use Rattle.bs_game.specs.Reasons.{first_reason}
 use Rattle.bs_game.specs.Law.{IsFitEffect, IsFitRecord}
 use Rattle.bs_game.specs.View.{answer_of, answer_with, shown_as_new}
 use Rattle.bs_game.proofs.Acceptance.{move_is_early, next_is_shown}
 use Rattle.bs_game.proofs.Games.{board_charge_small, legal_size_rounds}
 use Rattle.bs_plane.specs.declared.stepper.Stepper.{Stepper}
-use Rattle.bs_plane.specs.Answered.{IsLastOf}
 use Rattle.bs_plane.specs.Following.{Follows, IsNextRecord}
-use Rattle.bs_plane.specs.inner.Answered.{FollowsEffect}
+use Rattle.bs_plane.specs.Running.{IsRunningView}
+use Rattle.bs_plane.specs.inner.Answered.{FollowsEffect, IsMoveReason}
+use Rattle.bs_plane.proofs.RunningGame.{reason_found}
 
 -- ---- the charge of a record
 
@@ -57,26 +58,23 @@ some_last view bytes (Some last) is legal early of =
     let same : record_of last ≡ bytes = cc in
     record { board = last; last = is; legal = legal; is = sym same; early = early }
 
-module _ (most charged : ℕ) (orders : Orders) (bytes : List ℕ) where
-  last_of : (view : View) → IsLastOf most charged orders bytes view → IsLastBoard view bytes
-  last_of view of = some_last view bytes view.last refl of.fit.legal (move_is_early view orders of.passes) of.last
+pub charge_fits : (most charged : ℕ) (bytes : List ℕ) (view : View) → IsRunningView most charged bytes view → (own : ℕ) → own + MOST_QUOTA < 2 ^ 32 → charged + own < 2 ^ 32
+charge_fits most charged bytes view of own small =
+    let within = of.fit.within in
+    let few = of.fit.small in
+    let charge = of.charge in
+    let quota = of.quota in
+    omega arith
 
-  pub early_last : (view : View) → IsLastOf most charged orders bytes view → (b : Board) → IsLegal b → bytes ≡ record_of b → b.turn < LAST_TURN
-  early_last view of b legal is =
-      let last = last_of view of in
-      let same : last.board ≡ b = record_is_of_one_board last.board b last.legal legal (sym last.is ∙ is) in
-      subst (λ (x : Board). x.turn < LAST_TURN) same last.early
+module _ (most charged : ℕ) (orders : Orders) (bytes : List ℕ) (allowed : IsMoveReason bytes None) where
+  passes : (view : View) → IsRunningView most charged bytes view → first_reason view (command.Move orders) ≡ None
+  passes view of = reason_found bytes None allowed orders most charged view of
 
-  pub charge_fits : (view : View) → IsLastOf most charged orders bytes view → (own : ℕ) → own + MOST_QUOTA < 2 ^ 32 → charged + own < 2 ^ 32
-  charge_fits view of own small =
-      let within = of.fit.within in
-      let few = of.fit.small in
-      let charge = of.charge in
-      let quota = of.quota in
-      omega arith
+  last_of : (view : View) → IsRunningView most charged bytes view → IsLastBoard view bytes
+  last_of view of = some_last view bytes view.last refl of.fit.legal (move_is_early view orders (passes view of)) of.last
 
   module _ (next : List ℕ) (after : IsNextRecord bytes orders next) (own : ℕ) (charges : (b : Board) → IsLegal b → next ≡ record_of b → own ≡ board_charge b) where
-    module _ (view : View) (of : IsLastOf most charged orders bytes view) where
+    module _ (view : View) (of : IsRunningView most charged bytes view) where
       abbrev last : IsLastBoard view bytes
       last = last_of view of
 
@@ -95,7 +93,7 @@ module _ (most charged : ℕ) (orders : Orders) (bytes : List ℕ) where
       over : (full : Bool) → nat_lt most (charged + own) ≡ full → answer_of view (command.Move orders) ≡ answer_with (if full then Refused refusal.Quota else Shown word.Move b (charged + own))
       over full test =
           let same : nat_lt view.quota (view.charge + board_charge b) ≡ full = ap (λ n. nat_lt n (view.charge + board_charge b)) of.quota ∙ ap (nat_lt most) charge ∙ test in
-          next_is_shown view orders last.board of.passes last.last
+          next_is_shown view orders last.board (passes view of) last.last
           ∙ ap (λ t. answer_with (if t then Refused refusal.Quota else shown_as_new view word.Move b)) same
           ∙ ap (λ n. answer_with (if full then Refused refusal.Quota else Shown word.Move b n)) charge
 

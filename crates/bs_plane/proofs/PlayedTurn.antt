@@ -1,18 +1,21 @@
 -- The turn over the plane, from its steps.
-use Rattle.std.proofs.Common.{◌≡◌, ℕ, zero, suc, ◌+◌, ◌<◌, true, List, [], ◌∷◌, ◌++◌, length, take, drop, map, All, refl, sym, ap, subst, ◌∙◌, arith, append-nil}
+use Rattle.std.proofs.Common.{◌≡◌, ℕ, zero, suc, ◌+◌, ◌<◌, true, false, cond, List, [], ◌∷◌, ◌++◌, length, take, drop, map, count_by, None, All, refl, sym, ap, subst, ◌∙◌, arith, append-nil, length-append}
 use Rattle.std.specs.List.{flat_map}
+use Rattle.std.proofs.lemmas.Bool.{cond_both, lt-leb}
 use Rattle.std.proofs.lemmas.List.{drop_all, length-map, take_all}
 use Rattle.std.proofs.lemmas.List.Elements.{All-head, All-tail}
+use Rattle.std.proofs.lemmas.List.Sums.{sum_by-cons}
 use Rattle.bs_board.specs.declared.boards.board.Board.{Board}
 use Rattle.bs_board.specs.declared.boards.board.Mode.{Mode}
 use Rattle.bs_board.specs.declared.boards.board.Mode.TheVariants.{Standard, Solo, Constrictor, Wrapped}
+use Rattle.bs_board.specs.declared.boards.point.Direction.{Direction}
 use Rattle.bs_board.specs.declared.boards.point.Point.{Point}
 use Rattle.bs_board.specs.declared.boards.snake.Snake.{Snake}
 use Rattle.bs_board.specs.declared.records.layout.BoardBytes.{BoardBytes}
 use Rattle.bs_board.specs.boards.Cell.{head_of}
 use Rattle.bs_board.specs.boards.Legal.{IsLegal}
-use Rattle.bs_board.specs.boards.Over.{is_living}
-use Rattle.bs_board.specs.commands.Orders.{Orders}
+use Rattle.bs_board.specs.boards.Over.{is_living, is_over, last_living}
+use Rattle.bs_board.specs.commands.Orders.{Orders, given_to}
 use Rattle.bs_board.specs.records.Layout.{IsBoardBytes, cells_of}
 use Rattle.bs_board.specs.records.Record.{record_of, snake_record}
 use Rattle.bs_board.specs.records.Kept.{IsLegalRecord}
@@ -27,8 +30,11 @@ use Rattle.bs_plane.specs.Food.{HasFood}
 use Rattle.bs_plane.specs.Onward.{AreAlone, MovesSnakes, ShowsSnakes, living_head, living_heads, onward}
 use Rattle.bs_plane.specs.Plane.{ShowsBoard, contents}
 use Rattle.bs_plane.specs.Turn.{GoOn, fed_onward, followed, refilled_in}
+use Rattle.bs_plane.specs.inner.Answered.{IsMoveReason}
 use Rattle.bs_plane.specs.inner.Turn.{MayStep, Plays, PlaysFrom, Refills}
 use Rattle.bs_plane.specs.Written.{WritesNext}
+use Rattle.bs_plane.proofs.MovedSnakes.{living_onward}
+use Rattle.bs_plane.proofs.RunningGame.{no_reason}
 use Rattle.bs_plane.proofs.QuietTurn.{is_followed}
 
 all_right : (P : Point → Type 0) (xs ys : List Point) → All P (xs ++ ys) → All P ys
@@ -44,6 +50,27 @@ head_is P (s ∷ snakes) zero within alive all =
     let own : living_head s ≡ head_of s.body ∷ [] = rw lives refl in
     All-head P (head_of s.body) (living_heads snakes) (subst (λ (l : List Point). All P (l ++ living_heads snakes)) own all)
 head_is P (s ∷ snakes) (suc seat) within alive all = head_is P snakes seat (omega arith) alive (all_right P (living_head s) (living_heads snakes) all)
+
+-- the heads are as many as the living
+head_count : (snakes : List Snake) → length (living_heads snakes) ≡ count_by is_living snakes
+head_count [] = refl
+head_count (s ∷ snakes) =
+    let rest = head_count snakes in
+    let heads : length (living_heads (s ∷ snakes)) ≡ length (living_head s) + length (living_heads snakes) = length-append (living_head s) (living_heads snakes) in
+    let living = sum_by-cons (λ t. cond {A = ℕ} (is_living t) 1 0) s snakes in
+    let own : length (living_head s) ≡ cond {A = ℕ} (is_living s) 1 0 =
+    cond_both (is_living s) (head_of s.body ∷ []) [] (λ l. length l ≡ cond {A = ℕ} (is_living s) 1 0) (λ lives. rw lives refl) (λ dead. rw dead refl) in
+    omega arith
+
+-- no snake goes out
+living_count : (b : Board) (moves : List (List ℕ × Direction)) (snakes : List Snake) → count_by is_living (map (onward b moves) snakes) ≡ count_by is_living snakes
+living_count b moves [] = refl
+living_count b moves (s ∷ snakes) =
+    let rest = living_count b moves snakes in
+    let before = sum_by-cons (λ t. cond {A = ℕ} (is_living t) 1 0) s snakes in
+    let after = sum_by-cons (λ t. cond {A = ℕ} (is_living t) 1 0) (onward b moves s) (map (onward b moves) snakes) in
+    let own = ap (λ lives. cond {A = ℕ} lives 1 0) (living_onward b (given_to moves s.id) s) in
+    omega arith
 
 refilled_refed : (mode : Mode) (words : List ℕ) (b : Board) → Refed b (refilled_in mode words b)
 refilled_refed Standard words b = spawned_refed words b
@@ -84,7 +111,13 @@ module _ (b : Board) (orders : Orders) (legal : IsLegal b) (parts : BoardBytes) 
         ∙ ap (λ l. living_heads (map (onward b orders.moves) l)) all
 
     module _ (alone : AreAlone heads plane1) (refills : Refills (λ c. refilled_in c.mode orders.words c) parts heads plane1 food plane2 food') (no_food : food ≡ [])
-        (writes : WritesNext parts food' snakes bytes) where
+        (many_live : last_living parts.mode < length heads) (writes : WritesNext parts food' snakes bytes) where
+      is_on : is_over b ≡ false
+      is_on =
+          let count = ap length moved_listed ∙ head_count moved ∙ living_count b orders.moves b.snakes in
+          let last = ap last_living of.mode in
+          lt-leb (count_by is_living b.snakes) (last_living b.mode) (omega arith)
+
       go_on : GoOn b orders.moves
       go_on = record {
         live = moves.lives;
@@ -112,6 +145,7 @@ module _ (b : Board) (orders : Orders) (legal : IsLegal b) (parts : BoardBytes) 
           let written : bytes ≡ record_of (followed b orders) =
           writes b (followed b orders) of now (ap length own ∙ many) has.written (moved_written ∙ ap (flat_map snake_record) (sym own)) in
           record {
+            goes_on = is_on;
             shows = subst (λ (y : Board). ShowsBoard y plane2) (sym is_turn) shown;
             written = written ∙ ap record_of (sym is_turn);
           }
@@ -133,6 +167,13 @@ legal_after orders last bytes parts old new kept of may shows plays =
       legal = turn_is_legal b orders kept.legal early;
       is = (plays b kept.legal view (shows b kept.legal kept.is)).written;
     }
+
+-- and a move is allowed on that board
+pub allowed_before : (orders : Orders) (last bytes : List ℕ) (parts : BoardBytes) (old new : Plane) → ((b : Board) → last ≡ record_of b → IsBoardBytes b parts)
+    → MayStep parts orders → ((b : Board) → IsLegal b → last ≡ record_of b → ShowsBoard b old) → PlaysFrom parts orders old new bytes → IsMoveReason last None
+allowed_before orders last bytes parts old new of may shows plays b legal is =
+    let view = of b is in
+    no_reason b (plays b legal view (shows b legal is)).goes_on (subst (λ n. n < 10000) view.turn may.early)
 
 -- the plane follows it
 pub follows_after : (orders : Orders) (last bytes : List ℕ) (parts : BoardBytes) (old new : Plane) → IsLegalRecord last → ((b : Board) → last ≡ record_of b → IsBoardBytes b parts)

@@ -1,25 +1,48 @@
--- A move in a game that runs, and the reasons against it.
-use Rattle.std.proofs.Common.{◌≡◌, ℕ, Bool, true, false, List, Option, Some, None, refl, sym, ap, ◌∙◌, inl, inr}
-use Rattle.std.specs.Prelude.{nat_le, option_map, if◌then◌else◌}
-use Rattle.std.proofs.lemmas.Bool.{cases_Bool}
+-- A move in a game that runs, and the reason against it.
+use Rattle.std.proofs.Common.{◌≡◌, ℕ, ◌<◌, Bool, false, List, Option, Some, None, refl, sym, ap, ◌∙◌, inl, inr}
+use Rattle.std.specs.Prelude.{IfSome, nat_le, option_map, if◌then◌else◌}
+use Rattle.std.proofs.lemmas.Bool.{cases_Bool, leb-false, lt-leb}
 use Rattle.bs_board.specs.declared.boards.board.Board.{Board}
 use Rattle.bs_board.specs.declared.commands.command.Command.TheVariants as command
 use Rattle.bs_board.specs.declared.commands.reply.Refusal.{Refusal}
 use Rattle.bs_board.specs.declared.commands.reply.Refusal.TheVariants as refusal
 use Rattle.bs_board.specs.declared.limits.TheConstants.{LAST_TURN}
+use Rattle.bs_board.specs.boards.Legal.{IsLegal}
 use Rattle.bs_board.specs.boards.Over.{is_over}
 use Rattle.bs_board.specs.commands.Orders.{Orders}
 use Rattle.bs_board.specs.records.Record.{record_of}
 use Rattle.bs_game.specs.declared.view.View.{View}
 use Rattle.bs_game.specs.Reasons.{first_reason}
-use Rattle.bs_plane.specs.Answered.{IsLastOf}
 use Rattle.bs_plane.specs.Running.{IsRunningView}
+use Rattle.bs_plane.specs.inner.Answered.{IsMoveReason, move_reason}
 
 reason_at : Bool → ℕ → Option Refusal
 reason_at over turn = if over then Some refusal.Over else (if nat_le LAST_TURN turn then Some refusal.Limit else None)
 
-reason_of_last : (view : View) (orders : Orders) (b : Board) → view.last ≡ Some b → first_reason view (command.Move orders) ≡ reason_at (is_over b) b.turn
-unfolding first_reason reason_at
+-- the reason that is found by the record
+pub reason_checked : (bytes : List ℕ) (over : Bool) (turn : ℕ) (reason : Option Refusal) → ((b : Board) → bytes ≡ record_of b → over ≡ is_over b) → ((b : Board) → bytes ≡ record_of b → turn ≡ b.turn)
+    → reason ≡ (if over then Some refusal.Over else (if nat_le LAST_TURN turn then Some refusal.Limit else None)) → IsMoveReason bytes reason
+unfolding reason_at
+reason_checked bytes over turn reason is at checked b legal same = checked ∙ ap (λ o. reason_at o turn) (is b same) ∙ ap (reason_at (is_over b)) (at b same)
+
+-- no reason is against a move in a game that is not over, before the last turn
+pub no_reason : (b : Board) → is_over b ≡ false → b.turn < LAST_TURN → None ≡ move_reason b
+no_reason b on early = let before = lt-leb LAST_TURN b.turn early in rw (on, before) refl
+
+-- where there is none, the turn is not the last
+pub early_without : (b : Board) → None ≡ move_reason b → b.turn < LAST_TURN
+early_without b none =
+    elim (cases_Bool (is_over b)) [
+      | inl over ↦ let wrong : None ≡ Some refusal.Over = rw over at none in absurd cc
+      | inr on ↦
+          elim (cases_Bool (nat_le LAST_TURN b.turn)) [
+            | inl late ↦ let wrong : None ≡ Some refusal.Limit = rw (on, late) at none in absurd cc
+            | inr early ↦ leb-false LAST_TURN b.turn early
+          ]
+    ]
+
+reason_of_last : (view : View) (orders : Orders) (b : Board) → view.last ≡ Some b → first_reason view (command.Move orders) ≡ move_reason b
+unfolding first_reason
 reason_of_last view orders b last =
     elim (cases_Bool (is_over b)) [
       | inl over ↦ rw (last, over) refl
@@ -30,20 +53,14 @@ reason_of_last view orders b last =
           ]
     ]
 
-module _ (bytes : List ℕ) (over : Bool) (turn : ℕ) (is : (b : Board) → bytes ≡ record_of b → over ≡ is_over b) (at : (b : Board) → bytes ≡ record_of b → turn ≡ b.turn) where
-  reason_with : (view : View) (orders : Orders) (last : Option Board) → view.last ≡ last → option_map record_of last ≡ Some bytes
-      → first_reason view (command.Move orders) ≡ reason_at over turn
-  reason_with view orders None same of = let wrong : None ≡ Some bytes = of in absurd cc
-  reason_with view orders (Some b) same of =
+module _ (bytes : List ℕ) (reason : Option Refusal) (told : IsMoveReason bytes reason) (orders : Orders) where
+  reason_with : (view : View) (last : Option Board) → view.last ≡ last → IfSome last IsLegal → option_map record_of last ≡ Some bytes
+      → first_reason view (command.Move orders) ≡ reason
+  reason_with view None same legal of = let wrong : None ≡ Some bytes = of in absurd cc
+  reason_with view (Some b) same legal of =
       let bytes_are : bytes ≡ record_of b = cc in
-      rw (is b bytes_are, at b bytes_are) (reason_of_last view orders b same)
+      reason_of_last view orders b same ∙ sym (told b legal bytes_are)
 
-  module _ (most charged : ℕ) (orders : Orders) (reason : Option Refusal) (checked : reason ≡ (if over then Some refusal.Over else (if nat_le LAST_TURN turn then Some refusal.Limit else None))) where
-    -- the reason against the move is that found by the record
-    pub reason_found : (view : View) → IsRunningView most charged bytes view → first_reason view (command.Move orders) ≡ reason
-    unfolding reason_at
-    reason_found view of = reason_with view orders view.last refl of.last ∙ sym checked
-
-    -- a view of the game allows the move
-    pub view_allows : reason ≡ None → (view : View) → IsRunningView most charged bytes view → IsLastOf most charged orders bytes view
-    view_allows none view of = record { fit = of.fit; passes = reason_found view of ∙ none; quota = of.quota; charge = of.charge; last = of.last }
+  -- it is the first reason against the move, in each view of the game
+  pub reason_found : (most charged : ℕ) (view : View) → IsRunningView most charged bytes view → first_reason view (command.Move orders) ≡ reason
+  reason_found most charged view of = reason_with view view.last refl of.fit.legal of.last

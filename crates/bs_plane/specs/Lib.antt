@@ -1,4 +1,3 @@
-pub mod Answered
 pub mod Following
 pub mod Food
 pub mod Onward

@@ -1,6 +1,6 @@
-//! The answer to a move that is allowed.
+//! The answer to a move in a game that runs.
 
-ghost use Rattle.std.specs.Prelude.{◌≡◌, ◌+◌, ◌<◌, ◌^◌, IfOk, OnErr};
+ghost use Rattle.std.specs.Prelude.{◌≡◌, ◌+◌, ◌<◌, ◌^◌, IfOk, MatchResult, None, OnErr, Some};
 ghost use Rattle.bs_board.specs.declared.boards.board.Board.{Board as AnyBoard};
 ghost use Rattle.bs_board.specs.declared.commands.command.Command.TheVariants as command;
 ghost use Rattle.bs_board.specs.declared.commands.command.Word.TheVariants as Word;
@@ -12,14 +12,14 @@ ghost use Rattle.bs_game.specs.declared.view.View.{View as AnyView};
 ghost use Rattle.bs_game.specs.Game.{board_charge};
 ghost use Rattle.bs_game.specs.Law.{IsFitEffect};
 ghost use Rattle.bs_game.specs.View.{answer_of, answer_with};
-ghost use Rattle.bs_plane.specs.Answered.{IsLastOf};
 ghost use Rattle.bs_plane.specs.Following.{Follows, IsLost, IsNextRecord};
-ghost use Rattle.bs_plane.specs.inner.Answered.{FollowsEffect};
+ghost use Rattle.bs_plane.specs.Running.{IsRunningView};
+ghost use Rattle.bs_plane.specs.inner.Answered.{FollowsEffect, IsMoveReason};
 
 use crate::stepper::Stepper;
 use bs_block::round_up;
 use bs_board::{KeptBoard, Move, Record, Refusal, Reply, Word};
-use bs_game::{Answer, Effect, refuse};
+use bs_game::{Answer, Effect, check_move, refuse};
 use bs_rules::turn;
 use std::alloc::{AllocError, Global};
 
@@ -43,22 +43,25 @@ fn play_decoded(
     Ok(record)
 }
 
-/// Plays the turn, over the plane where that can be.
+/// Plays the turn, over the plane where that can be. The refusal if the move is not allowed.
 fn next_record(
     alloc: Global,
     stepper: &mut Stepper,
     last: &Record,
     orders: &Move,
-) -> Result<Record, AllocError>
-    requires early { (b : AnyBoard) → IsLegal b → last.now ≡ record_of b → b.turn < LAST_TURN }
-    requires follows { Follows stepper.old last.now }
-    ensures value { IfOk result (IsNextRecord last.now orders.now) }
-    ensures follows { IfOk result (Follows stepper.new) }
+) -> Result<Result<Record, Refusal>, AllocError>
+    requires { Follows stepper.old last.now }
+    ensures value { IfOk result (λ next. IfOk next (IsNextRecord last.now orders.now)) }
+    ensures reason { IfOk result (λ next. MatchResult next (λ _. IsMoveReason last.now None) (λ reason. IsMoveReason last.now (Some reason))) }
+    ensures follows { IfOk result (λ next. MatchResult next (Follows stepper.new) (λ _. IsLost stepper.new)) }
     ensures err { OnErr result (IsLost stepper.new) }
 {
-    match stepper.step(alloc, last, orders)? {
-        Some(record) => Ok(record),
-        None => play_decoded(alloc, stepper, last, orders),
+    if let Some(record) = stepper.step_allowed(alloc, last, orders)? {
+        return Ok(Ok(record));
+    }
+    match check_move(last.is_over(), last.turn()) {
+        Some(reason) => Ok(Err(reason)),
+        None => Ok(Ok(play_decoded(alloc, stepper, last, orders)?)),
     }
 }
 
@@ -80,8 +83,8 @@ fn record_charge(next: &Record) -> u32
     round_up(next.as_slice().len()) as u32
 }
 
-/// Answers a move that is allowed, from the record of the last board. After a refusal and after an
-/// error the stepper is of no board.
+/// Answers a move in a game that runs, from the record of its last board. After a refusal and after
+/// an error the stepper is of no board.
 pub(crate) fn answer_move(
     alloc: Global,
     stepper: &mut Stepper,
@@ -90,14 +93,17 @@ pub(crate) fn answer_move(
     quota: u32,
     charge: u32,
 ) -> Result<Answer, AllocError>
-    requires view { (view : AnyView) × IsLastOf quota charge orders.now last.now view }
+    requires view { (view : AnyView) × IsRunningView quota charge last.now view }
     requires follows { Follows stepper.old last.now }
-    ensures value { IfOk result (λ answer. (view : AnyView) → IsLastOf quota charge orders.now last.now view → answer ≡ answer_of view (command.Move orders.now)) }
+    ensures value { IfOk result (λ answer. (view : AnyView) → IsRunningView quota charge last.now view → answer ≡ answer_of view (command.Move orders.now)) }
     ensures fits { IfOk result (λ answer. IsFitEffect quota charge answer.effect) }
     ensures follows { IfOk result (λ answer. FollowsEffect answer.effect stepper.new) }
     ensures err { OnErr result (IsLost stepper.new) }
 {
-    let next = next_record(alloc, stepper, last, orders)?;
+    let next = match next_record(alloc, stepper, last, orders)? {
+        Ok(next) => next,
+        Err(reason) => return Ok(refuse(reason)),
+    };
     let charge = charge + record_charge(&next);
     if charge > quota {
         stepper.forget();

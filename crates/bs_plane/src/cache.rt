@@ -4,14 +4,13 @@ ghost use Rattle.bs_board.specs.declared.commands.command.Command.TheVariants as
 ghost use Rattle.bs_game.specs.declared.view.View.{View as AnyView};
 ghost use Rattle.bs_game.specs.Law.{IsFitEffect};
 ghost use Rattle.bs_game.specs.View.{answer_of};
-ghost use Rattle.bs_plane.specs.Answered.{IsLastOf};
 ghost use Rattle.bs_plane.specs.Running.{IsRunningView};
 ghost use Rattle.bs_plane.specs.inner.Cache.{IsKeyOf};
 
 use crate::answering::answer_move;
 use crate::stepper::Stepper;
 use bs_board::{Move, Record};
-use bs_game::{Answer, Effect, check_move, refuse};
+use bs_game::{Answer, Effect};
 use std::alloc::{AllocError, Global};
 use std::marker::Model;
 
@@ -66,28 +65,6 @@ impl PlaneCache {
         }
     }
 
-    /// Answers a move that is allowed.
-    fn play(
-        &mut self,
-        alloc: Global,
-        last: &Record,
-        orders: &Move,
-        quota: u32,
-        charge: u32,
-    ) -> Result<Answer, AllocError>
-        requires { (view : AnyView) × IsLastOf quota charge orders.now last.now view }
-        ensures value { IfOk result (λ answer. (view : AnyView) → IsLastOf quota charge orders.now last.now view → answer ≡ answer_of view (command.Move orders.now)) }
-        ensures fits { IfOk result (λ answer. IsFitEffect quota charge answer.effect) }
-    {
-        if !is_key(&self.key, last) {
-            self.stepper.forget();
-        }
-        self.key = None;
-        let answer = answer_move(alloc, &mut self.stepper, last, orders, quota, charge)?;
-        self.key = added_record(&answer.effect)?;
-        Ok(answer)
-    }
-
     /// Answers a move in a game that runs, from the record of its last board.
     pub fn answer(
         &mut self,
@@ -101,9 +78,12 @@ impl PlaneCache {
         ensures value { IfOk result (λ answer. (view : AnyView) → IsRunningView quota charge last.now view → answer ≡ answer_of view (command.Move orders.now)) }
         ensures fits { IfOk result (λ answer. IsFitEffect quota charge answer.effect) }
     {
-        match check_move(last.is_over(), last.turn()) {
-            Some(reason) => Ok(refuse(reason)),
-            None => self.play(alloc, last, orders, quota, charge),
+        if !is_key(&self.key, last) {
+            self.stepper.forget();
         }
+        self.key = None;
+        let answer = answer_move(alloc, &mut self.stepper, last, orders, quota, charge)?;
+        self.key = added_record(&answer.effect)?;
+        Ok(answer)
     }
 }

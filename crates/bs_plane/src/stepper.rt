@@ -1,12 +1,13 @@
 //! A turn from record to record, over the plane of a game's last board.
 
-ghost use Rattle.std.specs.Prelude.{◌≡◌, true, IfOk, IfSome, IsTrue, MatchOption, OnErr, OnOk};
+ghost use Rattle.std.specs.Prelude.{◌≡◌, true, IfOk, IfSome, IsTrue, MatchOption, None, OnErr, OnOk};
 ghost use Rattle.bs_board.specs.commands.Setup.{is_side};
 ghost use Rattle.bs_board.specs.records.Layout.{cells_of};
 ghost use Rattle.bs_food.specs.Spawning.{spawned};
 ghost use Rattle.bs_plane.specs.Following.{Follows, IsLost, IsNextRecord};
 ghost use Rattle.bs_plane.specs.Plane.{Changes, ShowsBoard, with_hazards};
 ghost use Rattle.bs_plane.specs.Turn.{refilled_in};
+ghost use Rattle.bs_plane.specs.inner.Answered.{IsMoveReason};
 ghost use Rattle.bs_plane.specs.inner.Turn.{MayStep, PlaysFrom, Refills};
 
 use crate::food::{keep_food, remove_eaten, spawn};
@@ -97,7 +98,8 @@ fn refill(
     }
 }
 
-/// Plays the turn over the plane. False if the turn is not one that the plane can follow.
+/// Plays the turn over the plane. False if the game is over, or if the turn is not one that the
+/// plane can follow.
 fn play(
     plane: &mut Plane,
     board: &BoardBytes<'_>,
@@ -117,6 +119,9 @@ fn play(
         &mut draft.snakes,
         &mut draft.heads,
     )? {
+        return Ok(false);
+    }
+    if draft.heads.len() <= board.mode.last_living() {
         return Ok(false);
     }
     if !are_alone(plane, &draft.heads) {
@@ -203,6 +208,23 @@ impl Stepper {
     ) -> Result<Option<Record>, AllocError>
         requires { Follows self.old last.now }
         ensures value { IfOk result (λ next. IfSome next (IsNextRecord last.now orders.now)) }
+        ensures follows { IfOk result (λ next. MatchOption next (IsLost self.new) (Follows self.new)) }
+        ensures err { OnErr result (IsLost self.new) }
+    {
+        self.step_allowed(alloc, last, orders)
+    }
+
+    /// The body of `step`, which plays only moves that are allowed: `None` also where the game is
+    /// over, or at its last turn.
+    pub(crate) fn step_allowed(
+        &mut self,
+        alloc: Global,
+        last: &Record,
+        orders: &Move,
+    ) -> Result<Option<Record>, AllocError>
+        requires { Follows self.old last.now }
+        ensures value { IfOk result (λ next. IfSome next (IsNextRecord last.now orders.now)) }
+        ensures allowed { IfOk result (λ next. IfSome next (λ _. IsMoveReason last.now None)) }
         ensures follows { IfOk result (λ next. MatchOption next (IsLost self.new) (Follows self.new)) }
         ensures err { OnErr result (IsLost self.new) }
     {

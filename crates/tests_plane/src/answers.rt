@@ -105,14 +105,22 @@ fn planes_of_another_board(rt: HostRuntime) -> Result<(), Fail> {
     is_shown(alloc, &answered(alloc, &mut planes, &first, (32, 1))?, 1)
 }
 
-/// The snake of the second example has left the board at its third turn.
+/// The snake of the second example has left the board at its third turn. The first of these moves is
+/// played on the decoded board, so the cache has the plane of the last board at the second, and not
+/// at the third.
 #[test]
 fn move_of_a_game_that_is_over(rt: HostRuntime) -> Result<(), Fail> {
     let alloc = rt.alloc();
     let mut planes = PlaneCache::new(alloc);
+    let next = solo_after(alloc, 3, 1)?;
+    let last = answered(alloc, &mut planes, &next, (32, 1))?;
+    holds("a record", matches!(last.effect, Effect::Add(_)))?;
     let over = solo_after(alloc, 3, 2)?;
-    is_refused(
-        &answered(alloc, &mut planes, &over, (32, 1))?,
-        Refusal::Over,
-    )
+    for _ in 0..2 {
+        is_refused(
+            &answered(alloc, &mut planes, &over, (32, 1))?,
+            Refusal::Over,
+        )?;
+    }
+    Ok(())
 }

@@ -1,10 +1,11 @@
 -- A turn on the plane and in bytes.
-use Rattle.std.specs.Prelude.{◌≡◌, ℕ, ◌<◌, true, None, List, [], All, length, map}
+use Rattle.std.specs.Prelude.{◌≡◌, ℕ, ◌<◌, true, false, None, List, [], All, length, map}
 use Rattle.bs_board.specs.declared.boards.board.Board.{Board}
 use Rattle.bs_board.specs.declared.boards.point.Direction.{Direction}
 use Rattle.bs_board.specs.declared.boards.point.Point.{Point}
 use Rattle.bs_board.specs.declared.limits.TheConstants.{LAST_TURN}
 use Rattle.bs_board.specs.boards.Legal.{IsLegal}
+use Rattle.bs_board.specs.boards.Over.{is_over}
 use Rattle.bs_board.specs.commands.Orders.{Orders}
 use Rattle.bs_board.specs.commands.Setup.{is_side}
 use Rattle.bs_rules.specs.Turn.{turn_of}
@@ -35,8 +36,9 @@ pub record MayStep (parts : BoardBytes) (orders : Orders) : Type 0 where
   pub few : parts.seats < 256
   pub short : length parts.hazards.now < 131000
 
--- the turn on the plane and in bytes
+-- the turn of a game that is not over, on the plane and in bytes
 pub record Plays (b : Board) (orders : Orders) (plane : Plane) (bytes : List ℕ) : Type 0 where
+  pub goes_on : is_over b ≡ false
   pub shows : ShowsBoard (turn_of b orders) plane
   pub written : bytes ≡ record_of (turn_of b orders)
 

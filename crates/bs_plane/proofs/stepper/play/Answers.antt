@@ -1,4 +1,4 @@
-use Rattle.std.proofs.Common.{◌∙◌, subst, sym}
+use Rattle.std.proofs.Common.{arith, subst, sym}
 use Rattle.bs_board.specs.commands.Orders.{Orders}
 use Rattle.bs_board.specs.inner.Orders.{orders_in}
 use Rattle.bs_plane.specs.inner.Turn.{MayStep, Plays}
@@ -15,4 +15,5 @@ returns c _ b legal of shows =
     c.refill.new.food.items c.write_record.new.into.items c.clear-2.new.self.items c.move_snakes.new.heads.items moves c.clear.ensures.items c.clear-2.ensures.items
     (rw c.deref.ensures.value at (c.are_alone.ensures c.if-not-are_alone.false))
     (rw (c.as_slice.ensures.value, c.deref-2.ensures.value) at (c.in_ok-refill.ensures c.if-not-branch-2.false)) c.clear-3.ensures.items
+    (let more = c.if-len-last_living.false in omega (arith, c.last_living.ensures, c.len.ensures))
     (rw (c.deref-3.ensures.value, c.deref-4.ensures.value) at c.in_ok-write_record.ensures))
