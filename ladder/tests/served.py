@@ -3,13 +3,14 @@
 from __future__ import annotations
 
 import json
+import math
 import select
 import socket
 import subprocess
 import sys
 import time
 import urllib.request
-from collections.abc import Iterable, Iterator, Sequence
+from collections.abc import Callable, Iterable, Iterator, Sequence
 from contextlib import contextmanager
 from dataclasses import dataclass
 from pathlib import Path
@@ -42,9 +43,14 @@ class Served:
 
 
 def free_port() -> int:
-    with socket.socket() as found:
-        found.bind(("127.0.0.1", 0))
-        return int(found.getsockname()[1])
+    """A port for a server. For a minute the system gives it to nobody who asks for any port: one of
+    its connections was ended, and rests (TIME_WAIT). Servers may take it nevertheless."""
+    with socket.create_server(("127.0.0.1", 0)) as listening:
+        place = listening.getsockname()
+        with socket.create_connection(place) as asking:
+            listening.accept()[0].close()
+            asking.recv(1)
+        return int(place[1])
 
 
 @contextmanager
@@ -108,6 +114,23 @@ def run_ladder(*words: str | Path) -> subprocess.CompletedProcess[str]:
 def complaints(error: str) -> str:
     """What a ladder wrote to its standard error, but that the machine is busy."""
     return error.replace(BUSY, "")
+
+
+def least_work(work: Callable[[], object], times: int = 5) -> float:
+    """The least processor time of some work, in units of that of a fixed loop measured beside it,
+    so that a slow or busy machine changes it little. A unit is some 3 ms."""
+    spent = unit = math.inf
+    for _ in range(times):
+        unit = min(unit, seconds_of(lambda: sum(at * at for at in range(50_000))))
+        spent = min(spent, seconds_of(work))
+    return spent / unit
+
+
+def seconds_of(work: Callable[[], object]) -> float:
+    """The processor time of this process for some work."""
+    began = time.process_time()
+    work()
+    return time.process_time() - began
 
 
 def board_with(**members: Any) -> Any:

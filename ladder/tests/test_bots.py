@@ -187,15 +187,17 @@ def test_all_are_asked_at_once() -> None:
 
 def test_answer_that_came_in_time_is_taken_however_busy_the_ladder_is() -> None:
     """If this program is too busy to read answers within the timeout, none is late."""
-    asked_for, listener = threading.Event(), socket.create_server(("127.0.0.1", 0))
+    asked_for, is_blocked, has_answered = (threading.Event() for _ in range(3))
+    listener = socket.create_server(("127.0.0.1", 0))
 
     def serve() -> None:
         connection, _ = listener.accept()
         with connection:
             connection.recv(4096)
             asked_for.set()
-            time.sleep(0.1)  # the event loop is blocked by now
+            is_blocked.wait()
             connection.sendall(b'HTTP/1.1 200 OK\r\nContent-Length: 13\r\n\r\n{"move":"up"}')
+            has_answered.set()
 
     async def work() -> Answer:
         url = f"http://127.0.0.1:{listener.getsockname()[1]}/bot"
@@ -203,6 +205,8 @@ def test_answer_that_came_in_time_is_taken_however_busy_the_ladder_is() -> None:
             asking = asyncio.create_task(client.moves([(url, b"{}")]))
             while not asked_for.is_set():
                 await asyncio.sleep(0.001)
+            is_blocked.set()  # the event loop, from here on
+            has_answered.wait()
             time.sleep(0.8)
             return (await asking)[0]
 

@@ -133,17 +133,23 @@ def test_season_begins_while_the_ladder_plays(
     """Its standings count later games alone; those of the season before are kept."""
     folder = tmp_path / "x"
     config = config_for(tmp_path / "x.toml", folder, small_bots, pairing="rating")
-    games = 120  # some are left when the command has started
-    playing = start_play(config, program, "--rounds", str(games))
+    playing = start_play(config, program)
     wait_for_games(folder, 10)
     began = run_ladder("season", folder, "spring")
     assert began.returncode == 0, began.stderr
+    with closing(open_store(folder)) as store:
+        wait_for_games(folder, store.count_games() + 10)
+    playing.terminate()
     error = playing.communicate(timeout=SECONDS)[1]
-    assert playing.returncode == 0, error
+    assert playing.returncode == 130, error
+    with closing(open_store(folder)) as store:
+        games = len(store.drawn())
+    ran = run_ladder("play", config, "--rounds", str(games), "--program", program)
+    assert ran.returncode == 0, ran.stderr
     assert run_ladder("season", folder, "summer").returncode == 0
     first, spring = rows_of(folder, "--season", "1"), rows_of(folder, "--season", "spring")
     counts = [sum(row["games"] for row in rows.values()) for rows in (first, spring)]
-    assert sum(counts) == 2 * games and 20 <= counts[0] < 2 * games
+    assert sum(counts) == 2 * games and counts[0] >= 20 <= counts[1]
     with closing(open_store(folder)) as store:
         assert [(it["name"], it["games"]) for it in season_rows(store)] == [
             *(("spring", counts[1] // 2), ("1", counts[0] // 2))

@@ -250,6 +250,14 @@ def test_page_that_ends_or_hangs_is_served_again(
     """The other process has the same address and the whole state; the ladder waits for neither."""
     monkeypatch.setattr(page_link, "HANG_SECONDS", 3.0)
     told: list[str] = []
+    started: list[Address] = []
+    start_page = page_link.start_page
+
+    async def start(folder: Path, address: Address, program: Path) -> page_link.PageProcess:
+        started.append(address)
+        return await start_page(folder, address, program)
+
+    monkeypatch.setattr(page_link, "start_page", start)
 
     async def work() -> None:
         address = Address("127.0.0.1", 0)
@@ -264,11 +272,14 @@ def test_page_that_ends_or_hangs_is_served_again(
                     link.show(GAME, board_with(turn=6, long="x" * 100_000))
                     link.send()
                     await asyncio.sleep(0.05)
-            await asyncio.sleep(0.5)
-            _, state = (await events_at(link.address, 2))[0]
+            async with asyncio.timeout(60):
+                while not (state := (await events_at(link.address, 2))[0][1])["boards"]:
+                    await asyncio.sleep(0.05)
             assert state["boards"][GAME.name]["turn"] == 6
             assert state["seed"] == "" or "the seed 1 comes from the configuration" in state["seed"]
-        assert told == ["the page ended or did not answer; it is served again"]
+        # On a busy machine it may seem to hang once more.
+        again = ["the page ended or did not answer; it is served again"]
+        assert told == again * (len(started) - 1)
 
     asyncio.run(work())
 
@@ -286,19 +297,22 @@ def test_page_whose_port_is_taken_is_a_fault(folder: Path) -> None:
 
 def test_idle_connections_do_not_keep_others_out(monkeypatch: pytest.MonkeyPatch) -> None:
     """At most 64 connections are open; those that ask nothing are closed after some time."""
-    monkeypatch.setattr(page_module, "SILENT_SECONDS", 1.0)
+    most = 200 - MOST_CONNECTIONS
 
-    async def work() -> None:
+    async def work(seconds: float) -> None:
+        monkeypatch.setattr(page_module, "SILENT_SECONDS", seconds)
         async with page(calls_of(Feed(no_results)), Address("127.0.0.1", 0)) as address:
             opened = [await asyncio.open_connection(address.host, address.port) for _ in range(200)]
-            await asyncio.sleep(0.2)
-            closed = sum(reader.at_eof() or has_ended(reader) for reader, _ in opened)
-            assert closed >= 200 - MOST_CONNECTIONS
-            assert (await events_at(address, 1))[0][0] == "all"
+            async with asyncio.timeout(60):
+                while sum(it.at_eof() or has_ended(it) for it, _ in opened) < most:
+                    await asyncio.sleep(0.05)
+            if seconds < 60:
+                assert (await events_at(address, 1))[0][0] == "all"
             for _, writer in opened:
                 writer.close()
 
-    asyncio.run(work())
+    for seconds in (600.0, 1.0):
+        asyncio.run(work(seconds))
 
 
 def has_ended(reader: asyncio.StreamReader) -> bool:

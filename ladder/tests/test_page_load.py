@@ -89,6 +89,7 @@ def test_page_is_up_before_its_standings_and_bad_requests_are_a_line(tmp_path: P
     try:
         line = first_line(process.stdout)
         port = int(line.rstrip("/\n").rpartition(":")[2])
+        first = time.monotonic()
         for _ in range(BAD):
             with socket.create_connection(("127.0.0.1", port)) as bad:
                 bad.sendall(b"\x16\x03\x01 no HTTP\x1b[31m\r\n\r\n")
@@ -101,6 +102,6 @@ def test_page_is_up_before_its_standings_and_bad_requests_are_a_line(tmp_path: P
         process.terminate()
         error = process.communicate()[1]
     lines = [it for it in error.splitlines() if "bad requests" in it]
-    assert len(lines) == 1 + (time.monotonic() - began > 60)
+    assert 1 <= len(lines) <= 1 + (time.monotonic() - first) // 60  # one a minute
     assert lines[0].startswith("ladder: the page had 1 bad requests, the last: ")
     assert "\x1b" not in error and "Traceback" not in error.partition("bad requests")[0]

@@ -13,6 +13,10 @@ from arena_ladder.net.pulse import Pulse
 TIMEOUT = 0.5
 
 
+def run(work: Any) -> Any:
+    return asyncio.run(asyncio.wait_for(work, 60))
+
+
 def test_loop_that_is_blocked_lags() -> None:
     async def work() -> None:
         async with Pulse(0.2) as pulse:
@@ -23,10 +27,10 @@ def test_loop_that_is_blocked_lags() -> None:
             assert pulse.lagged_since(before)  # seen before a beat could come
             await asyncio.sleep(0.01)
             assert pulse.lagged_since(before)
-            await asyncio.sleep(0.3)
-            assert not pulse.lagged_since(loop.time())
+            while pulse.lagged_since(loop.time()):  # a busy machine may do so once more
+                await asyncio.sleep(0.05)
 
-    asyncio.run(work())
+    run(work())
 
 
 async def moves_of(slow_answers: int, blocked: int) -> tuple[Answer, int]:
@@ -56,10 +60,6 @@ async def moves_of(slow_answers: int, blocked: int) -> tuple[Answer, int]:
         (answer,) = await client.moves([(url, b"{}")])
     server.close()
     return answer, asked
-
-
-def run(work: Any) -> Any:
-    return asyncio.run(asyncio.wait_for(work, 60))
 
 
 def test_bot_is_asked_again_if_the_ladder_was_late() -> None:

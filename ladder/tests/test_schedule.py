@@ -57,7 +57,7 @@ def test_all_bots_of_a_round_robin_play_at_once() -> None:
 
 
 def test_fewer_games_begin_while_the_ladder_is_late(monkeypatch: pytest.MonkeyPatch) -> None:
-    monkeypatch.setattr(schedule, "CALM_SECONDS", 0.05)
+    monkeypatch.setattr(schedule, "CALM_SECONDS", 600.0)
 
     async def work() -> None:
         pulse = Pulse(1000.0)
@@ -71,6 +71,7 @@ def test_fewer_games_begin_while_the_ladder_is_late(monkeypatch: pytest.MonkeyPa
                 pace.may_begin(pace.allowed)
                 await asyncio.sleep(0.001)
             assert pace.allowed == 1 and pace.may_begin(0) and not pace.may_begin(1)
+            monkeypatch.setattr(schedule, "CALM_SECONDS", 0.05)
             async with asyncio.timeout(20):
                 while not pace.may_begin(15):
                     await asyncio.sleep(0.01)

@@ -8,13 +8,12 @@ import json
 import math
 import random
 import sqlite3
-import time
 from collections import Counter
 from pathlib import Path
 from typing import Any
 
 import pytest
-from served import board_with
+from served import board_with, least_work
 
 from arena_client import Cause
 from arena_ladder.game.outcome import Finish, Outcome, SeatResult, Tally, finishes_of
@@ -103,7 +102,7 @@ def test_games_of_four_count_as_three_of_two() -> None:
 
 
 def test_ratings_of_200_bots_take_little_time() -> None:
-    """Less than 0.2 s of the processor for 4,000 games, whatever other programs run."""
+    """About 0.2 s of the processor for 4,000 games at most, whatever other programs run."""
     draw = random.Random(3)
     names = [f"bot{at}" for at in range(200)]
     pairs = [draw.sample(range(200), 2) for _ in range(4000)]
@@ -111,12 +110,8 @@ def test_ratings_of_200_bots_take_little_time() -> None:
         [(names[one], 1.0 + (draw.random() < 1 / (1 + 1.02 ** (other - one)))), (names[other], 1.5)]
         for one, other in pairs
     ]
-    best = math.inf
-    for _ in range(3):
-        began = time.process_time()
-        found = ratings(names, games)
-        best = min(best, time.process_time() - began)
-    assert best < 0.2
+    assert least_work(lambda: ratings(names, games)) < 60
+    found = ratings(names, games)
     assert sum(it.elo for it in found.values()) == pytest.approx(200 * 1500)
     assert found["bot150"].elo > found["bot100"].elo > found["bot50"].elo
 

@@ -65,7 +65,7 @@ async def longest_beat() -> float:
 async def play(urls: list[str], rest: float) -> tuple[list[Answer], float]:
     """The answers of some turns, between which nothing is asked, and the longest beat."""
     answers: list[Answer] = []
-    async with BotClient(1.0) as client:
+    async with BotClient(20.0) as client:  # more than a busy machine needs
         beating = asyncio.create_task(longest_beat())
         await asyncio.sleep(0)
         for _ in range(TURNS):
@@ -89,7 +89,10 @@ def test_floods_of_tls_do_not_hold_the_loop(
         (folder / "log").write_text("")
         answers, held = asyncio.run(play(urls, 0.3))
         assert all(it.cause == "long" or (it.move and kind != "early") for it in answers)
-        assert (folder / "log").read_text().split().count(kind) >= BOTS * (TURNS - 1)
+        ends = time.monotonic() + 60
+        while (folder / "log").read_text().split().count(kind) < BOTS * (TURNS - 1):
+            assert time.monotonic() < ends, "a flood was not cut off"
+            time.sleep(0.05)
         longest = min(longest, held)
         if longest < MOST_HELD:
             break
