@@ -30,6 +30,4 @@ mod runs;
 #[cfg(test)]
 mod stays;
 #[cfg(test)]
-mod stays_apart;
-#[cfg(test)]
 mod threads;
