@@ -2,7 +2,8 @@
 //! copied.
 ghost use Rattle.std.specs.Prelude.{◌≡◌, ◌+◌, List, ◌≤◌, length, map, IfOk};
 ghost use Rattle.bs_sched.specs.Assembly.{Hand, IsOrderOf, RanApart, RanInOrder, assembled, setting_with};
-ghost use Rattle.bs_sched.specs.Core.{without_tallies};
+ghost use Rattle.bs_sched.specs.Core.{opened_core, without_tallies};
+ghost use Rattle.bs_pool.specs.Ledger.{size};
 ghost use Rattle.bs_registry.specs.Blocks.{blocks_of_all};
 ghost use Rattle.bs_sched.specs.LoneStay.{kept_of_core};
 ghost use Rattle.bs_sched.specs.SharedMemory.{IsHosted};
@@ -63,6 +64,29 @@ fn steps_of(alloc: Global, order: &[u32]) -> Result<Vec<Step>, AllocError>
 }
 
 impl<const CAP: usize> Core<CAP> {
+    /// Takes a newly opened core apart: all its blocks are free. The error is the allocator's.
+    pub fn into_rest(self, alloc: Global) -> Result<Rest<CAP>, AllocError>
+        requires { self ≡ opened_core CAP (size self.games.storage.pool) self.games.workers self.games.rows }
+        ensures rows { IfOk result (λ rest. rest.rows ≡ self.entry.games.rows) }
+        ensures workers { IfOk result (λ rest. rest.workers ≡ self.entry.games.workers) }
+        ensures few { IfOk result (λ rest. rest.workers ≤ MOST_WORKERS) }
+        ensures blocks { IfOk result (λ rest. rest.blocks ≡ size self.entry.games.storage.pool) }
+        ensures hosted { IfOk result (λ rest. IsHosted (setting_with CAP rest.blocks rest.workers) rest.rows) }
+        ensures free { IfOk result (λ rest. length rest.free.items ≡ rest.blocks) }
+    {
+        let _events = self.journal();
+        let workers = self.workers();
+        let blocks = self.counts().size;
+        let (rows, pool) = self.into_games().into_rows_and_pool();
+        let free = pool.into_blocks(alloc)?;
+        Ok(Rest {
+            rows,
+            workers,
+            blocks,
+            free,
+        })
+    }
+
     /// Puts the cores together to the core of all rows, once each of them ran alone: first its
     /// commands were queued, then they were answered. `order` has the row of each command, in the
     /// order of the file. The error is the allocator's.

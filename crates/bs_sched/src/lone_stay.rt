@@ -5,6 +5,7 @@ ghost use Rattle.bs_pool.specs.Ledger.{size};
 ghost use Rattle.bs_sched.specs.Lane.{is_quiet};
 ghost use Rattle.bs_sched.specs.LoneStay.{kept_of_core, left_of_core};
 ghost use Rattle.bs_sched.specs.Machine.{lane_of};
+ghost use Rattle.bs_sched.specs.StaysHeld.{blocks_of_pool};
 
 use crate::cores::Core;
 use crate::game::Game;
@@ -32,6 +33,18 @@ impl<const CAP: usize> Model for LoneStay<CAP> {
     ghost Value = { LoneView };
 
     ghost view = { λ s. lone_in s };
+}
+
+impl<const CAP: usize> LoneStay<CAP> {
+    /// The number of its blocks; 0 once it has left.
+    pub fn blocks(&self) -> usize
+        ensures { result ≡ blocks_of_pool self.now.pool }
+    {
+        match &self.pool {
+            Some(pool) => pool.size(),
+            None => 0,
+        }
+    }
 }
 
 impl<const CAP: usize> Core<CAP> {

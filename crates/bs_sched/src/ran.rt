@@ -35,7 +35,7 @@ impl<const CAP: usize> Core<CAP> {
     /// Whether the core is of that row alone, with the blocks that the row reserves and as many
     /// workers; and it is idle.
     #[tactic(auto, using(crate::proofs::RanAlone::first_idle, crate::proofs::RanAlone::queued_first))]
-    fn ran_alone(&self, row: &Row, workers: usize) -> bool
+    pub fn ran_alone(&self, row: &Row, workers: usize) -> bool
         ensures { (commands : List Command) → IsQueuedFirst commands self.now → IsTrue result
             → RanAlone CAP workers row.now commands self.now }
     {

@@ -34,7 +34,7 @@ impl SharedRow {
     }
 
     /// Adds a handle without allocating. Fails if the number of handles would overflow.
-    pub(crate) fn share(&self) -> Result<SharedRow, AllocError>
+    pub fn share(&self) -> Result<SharedRow, AllocError>
         ensures { IfOk result (λ shared. shared ≡ self.now) }
     {
         Ok(SharedRow {
