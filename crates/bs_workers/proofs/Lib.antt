@@ -5,6 +5,7 @@ pub mod Ended
 pub mod GoneOn
 pub mod ListedStays
 pub mod MadeActs
+pub mod OpenRows
 pub mod Played
 pub mod PlayedStays
 pub mod Repeated

@@ -1,15 +1,18 @@
 -- What the acts so far say of the stays, and the events of the acts.
 use Rattle.std.proofs.Common.{◌≡◌, ℕ, suc, ◌+◌, ◌<◌, Bool, true, false, List, [], ◌∷◌, ◌++◌, length, map, take, get_or, refl, sym, ap, subst, ◌∙◌, arith, inl, inr}
-use Rattle.std.specs.Prelude.{◌&&◌, ◌||◌, nat_eq, slice_set}
+use Rattle.std.specs.Prelude.{◌&&◌, ◌||◌, All, nat_eq, slice_set}
 use Rattle.std.specs.List.{filter_map, list_any}
 use Rattle.std.proofs.lemmas.Bool.{cases_Bool, ne_eqb}
 use Rattle.std.proofs.lemmas.Bool.Decides.{eqb_tells}
 use Rattle.std.proofs.lemmas.Grind.{get_or-set_at}
 use Rattle.std.proofs.lemmas.List.{append_assoc, get_or-set_other, length-set, map-append, take_more}
+use Rattle.std.proofs.lemmas.List.Elements.{All-push}
 use Rattle.std.proofs.lemmas.List.Folds.{list_any-append}
 use Rattle.bs_board.specs.plans.Plan.{GameRow}
 use Rattle.bs_registry.specs.Stays.{Capacity, Stay}
 use Rattle.bs_sched.specs.declared.event.Event.{Event}
+use Rattle.bs_sched.specs.declared.step.Step.{Step}
+use Rattle.bs_sched.specs.Isolation.{HandsFit}
 use Rattle.bs_sched.specs.Registry.{commands_to, rows_in}
 use Rattle.bs_sched.specs.StaysApart.{are_acts_in, leaves_in}
 use Rattle.bs_sched.specs.StaysHeld.{steps_of}
@@ -37,6 +40,18 @@ one_more_row plan rows new acts i next within is before added =
     added ∙ ap (λ some. some ++ rows_admitted (next ∷ [])) before
     ∙ append_assoc plan (rows_admitted (take i acts)) (rows_admitted (next ∷ []))
     ∙ ap (λ some. plan ++ some) (sym (ap rows_admitted (one_more acts i next within is) ∙ admitted_append (take i acts) (next ∷ [])))
+
+pub one_more_step : (acts : List Act) (i : ℕ) (next : Act) (steps new : List Step) (step : Step) → i < length acts → next ≡ get_or acts i next
+    → new ≡ steps ++ step ∷ [] → step ≡ step_in next → steps ≡ map step_in (take i acts) → new ≡ map step_in (take (i + 1) acts)
+one_more_step acts i next steps new step within is added same before =
+    added ∙ ap (λ (some : List Step). some ++ step ∷ []) before ∙ ap (λ (s : Step). map step_in (take i acts) ++ s ∷ []) same
+    ∙ sym (ap (map step_in) (one_more acts i next within is) ∙ map-append step_in (take i acts) (next ∷ []))
+
+pub one_more_fits : (acts : List Act) (i : ℕ) (next : Act) → i < length acts → next ≡ get_or acts i next → HandsFit (event_of next)
+    → All HandsFit (map event_of (take i acts)) → All HandsFit (map event_of (take (i + 1) acts))
+one_more_fits acts i next within is one before =
+    subst (All HandsFit) (sym (ap (map event_of) (one_more acts i next within is) ∙ map-append event_of (take i acts) (next ∷ [])))
+    (All-push HandsFit (map event_of (take i acts)) (event_of next) before one)
 
 -- which stays leave by the first acts
 abbrev pub HaveLeftSo : List Act → ℕ → List Bool → Type 0

@@ -84,6 +84,11 @@ next_place acts i next row old new within is more before =
     ∙ ap (λ some. some ++ commands (next ∷ [])) before
     ∙ sym (one_more_command acts i next row within is)
 
+pub many_placed : (next : Act) (i : ℕ) (places : List (List ℕ)) → length (placed_act next i places) ≡ length places
+many_placed (act.Hand stay command) i places = length-set places stay (get_or places stay [] ++ i ∷ [])
+many_placed (act.Admit row) i places = refl
+many_placed (act.Leave stay) i places = refl
+
 pub one_placed : (acts : List Act) (i : ℕ) (next : Act) (old new : List (List ℕ)) → i < length acts → next ≡ get_or acts i next → new ≡ placed_act next i old
     → ArePlaced acts old i → ArePlaced acts new (i + 1)
 one_placed acts i (act.Hand stay command) old new there is added before =

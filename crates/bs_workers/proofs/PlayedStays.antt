@@ -1,30 +1,34 @@
 -- Stays that were played, as the call that puts them together requires them, and what their core is.
 use Rattle.std.proofs.Common.{◌≡◌, ℕ, suc, ◌+◌, ◌<◌, Bool, true, false, List, [], ◌∷◌, ◌++◌, length, map, get_or, Option, Some, None, refl, sym, ap, subst, ◌∙◌, arith, inl, inr}
 use Rattle.std.specs.Prelude.{slice_index_or, slice_set, All}
-use Rattle.std.specs.List.{filter_map, list_any}
+use Rattle.std.specs.List.{filter_map, list_all}
 use Rattle.std.proofs.Math.ListN.{get_or-eq_default}
-use Rattle.std.proofs.lemmas.Bool.{cases_Bool, cases_lt}
+use Rattle.std.proofs.lemmas.Bool.{and_from, cases_Bool, cases_lt}
 use Rattle.std.proofs.lemmas.Bool.Decides.{eqb_tells}
 use Rattle.std.proofs.lemmas.Grind.{get_or-set_at}
-use Rattle.std.proofs.lemmas.List.{append-nil, get_or-map, get_or-set_other, length-append, length-map}
+use Rattle.std.proofs.lemmas.List.{append-nil, get_or-set_other, length-map}
+use Rattle.std.proofs.lemmas.List.Sums.{AllPass-from_list_all}
 use Rattle.bs_board.specs.declared.commands.command.Command.{Command}
 use Rattle.bs_board.specs.plans.Plan.{GameRow}
-use Rattle.bs_registry.specs.Stays.{open_stay}
 use Rattle.bs_sched.specs.declared.event.Event.{Event}
 use Rattle.bs_sched.specs.declared.event.Event.TheVariants as event
 use Rattle.bs_sched.specs.declared.step.Step.{Step}
-use Rattle.bs_sched.specs.Assembly.{jobs_at, setting_with}
+use Rattle.bs_sched.specs.Assembly.{RanAlone, jobs_at}
+use Rattle.bs_sched.specs.Core.{CoreView}
 use Rattle.bs_sched.specs.Games.{row_at}
-use Rattle.bs_sched.specs.LoneStay.{LoneView}
-use Rattle.bs_sched.specs.Registry.{capacity_of, commands_to, rows_in}
-use Rattle.bs_sched.specs.StaysApart.{PlayedAlone, PlayedApart, PlayedStay, acts_with_jobs, all_rows, are_acts_in, jobs_kept, jobs_left, leaves_in, played_journal, stay_of_row}
+use Rattle.bs_sched.specs.Lane.{is_quiet, no_lane}
+use Rattle.bs_sched.specs.LoneStay.{LoneView, kept_of_core, left_of_core}
+use Rattle.bs_sched.specs.Machine.{lane_of}
+use Rattle.bs_sched.specs.Registry.{commands_to}
+use Rattle.bs_sched.specs.StaysApart.{PlayedAlone, PlayedStay, acts_with_jobs, all_rows, jobs_kept, jobs_left, leaves_in, played_journal, stay_of_row}
 use Rattle.bs_sched.specs.StaysHeld.{WerePlayed, lone_of}
 use Rattle.bs_workers.specs.declared.act.Act.{Act}
 use Rattle.bs_workers.specs.declared.act.Act.TheVariants as act
 use Rattle.bs_workers.specs.declared.stays.Stays.{Stays}
-use Rattle.bs_workers.specs.Acts.{are_acceptable, command_in, opened, rows_admitted}
+use Rattle.bs_workers.specs.Acts.{are_acceptable, command_in, opened}
 use Rattle.bs_workers.specs.Run.{acts_of}
-use Rattle.bs_workers.specs.inner.Stays.{AreListed, ArePlayedStays, IsPlayedStay, WasPlayed, event_of, is_leave, step_in}
+use Rattle.bs_workers.specs.inner.Apart.{HavePlaces}
+use Rattle.bs_workers.specs.inner.Stays.{AreListed, ArePlayedStays, IsPlayedStay, WasPlayed, event_of}
 use Rattle.bs_workers.proofs.Acted.{acts_append}
 use Rattle.bs_workers.proofs.ListedStays.{acts_again, allowed_again, commands_again, leaves_again, rows_again, steps_again}
 
@@ -168,3 +172,33 @@ are_put cap blocks workers plan acts listed stays acceptable are many played =
         };
       };
     }
+
+-- What a player leaves of a core.
+
+pub kept_stay : (cap workers : ℕ) (acts : List Act) (stays : Stays) (row : ℕ) (core : CoreView) (stay : LoneView) → slice_index_or stays.leaves.items row false ≡ false
+    → stay ≡ kept_of_core core
+    → (HavePlaces acts stays.places.items → RanAlone cap workers (row_at stays.rows.items row) (filter_map (command_in row) acts) core)
+    → IsPlayedStay cap workers acts stays row stay
+kept_stay cap workers acts stays row core stay stays_open is alone =
+    λ have.
+    subst (λ leaves. WasPlayed cap workers (row_at stays.rows.items row) (filter_map (command_in row) acts) leaves stay) (sym stays_open)
+    (record { core = core; is = is; played = record { alone = alone have; leaves_same = refl; may = λ on. absurd cc } })
+
+pub left_stay : (cap workers : ℕ) (acts : List Act) (stays : Stays) (row : ℕ) (core : CoreView) (stay : LoneView) → slice_index_or stays.leaves.items row false ≡ true
+    → (lane_of core.games.lanes 0).is_open ≡ true → list_all is_quiet core.games.lanes ≡ true → length core.games.lanes ≡ 1 → stay ≡ left_of_core core
+    → (HavePlaces acts stays.places.items → RanAlone cap workers (row_at stays.rows.items row) (filter_map (command_in row) acts) core)
+    → IsPlayedStay cap workers acts stays row stay
+left_stay cap workers acts stays row core stay leaves_it opens quiet one is alone =
+    λ have.
+    let there : 0 < length core.games.lanes = omega (arith, one) in
+    let still : is_quiet (lane_of core.games.lanes 0) ≡ true = AllPass-from_list_all is_quiet core.games.lanes quiet 0 no_lane there in
+    subst (λ leaves. WasPlayed cap workers (row_at stays.rows.items row) (filter_map (command_in row) acts) leaves stay) (sym leaves_it)
+    (record {
+      core = core;
+      is = is;
+      played = record {
+        alone = alone have;
+        leaves_same = refl;
+        may = λ on. and_from (lane_of core.games.lanes 0).is_open (is_quiet (lane_of core.games.lanes 0)) opens still;
+      };
+    })

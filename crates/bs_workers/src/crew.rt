@@ -86,8 +86,8 @@ impl<const CAP: usize> Table<CAP> {
 
     /// Keeps a stay that was played. `Failed` if there is no such row.
     fn put(&mut self, lone: Lone<CAP>) -> Result<(), Stop>
-        ensures row { OnOk result (lone.row < length self.old.slots.items) }
-        ensures kept { OnOk result (self.new.slots.items ≡ slice_set self.old.slots.items lone.row (Some lone.stay)) }
+        ensures row { OnOk result (lone.entry.row < length self.old.slots.items) }
+        ensures kept { OnOk result (self.new.slots.items ≡ slice_set self.old.slots.items lone.entry.row (Some lone.entry.stay)) }
         ensures cause { IfErr result (λ stop. stop ≡ reason.Failed) }
     {
         let Lone { row, stay } = lone;

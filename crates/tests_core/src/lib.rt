@@ -32,4 +32,6 @@ mod stays;
 #[cfg(test)]
 mod stays_apart;
 #[cfg(test)]
+mod stays_runs;
+#[cfg(test)]
 mod threads;

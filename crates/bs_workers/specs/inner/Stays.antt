@@ -3,6 +3,8 @@ use Rattle.std.specs.Prelude.{◌≡◌, ℕ, ◌<◌, Bool, true, false, nat_eq
 use Rattle.std.specs.List.{filter_map, list_any}
 use Rattle.bs_board.specs.declared.commands.command.Command.{Command}
 use Rattle.bs_board.specs.plans.Plan.{GameRow}
+use Rattle.bs_registry.specs.OpenStays.{OpenStayList, open_stays_of}
+use Rattle.bs_registry.specs.Stays.{Capacity, Stay}
 use Rattle.bs_sched.specs.declared.event.Event.{Event}
 use Rattle.bs_sched.specs.declared.event.Event.TheVariants as event
 use Rattle.bs_sched.specs.declared.step.Step.{Step}
@@ -16,7 +18,7 @@ use Rattle.bs_sched.specs.StaysHeld.{lone_of}
 use Rattle.bs_workers.specs.declared.act.Act.{Act}
 use Rattle.bs_workers.specs.declared.act.Act.TheVariants as act
 use Rattle.bs_workers.specs.declared.stays.Stays.{Stays}
-use Rattle.bs_workers.specs.Acts.{command_in, rows_admitted}
+use Rattle.bs_workers.specs.Acts.{command_in, is_acceptable, registry_after, rows_admitted}
 use Rattle.bs_workers.specs.inner.Apart.{HavePlaces}
 
 abbrev pub event_of : Act → Event
@@ -70,3 +72,8 @@ IsPlayedStay cap workers acts stays row stay =
 abbrev pub ArePlayedStays : ℕ → ℕ → List Act → Stays → List (Option LoneView) → Type 0
 ArePlayedStays cap workers acts stays slots =
     (row : ℕ) (stay : LoneView) → slice_index_or slots row None ≡ Some stay → IsPlayedStay cap workers acts stays row stay
+
+-- the act is acceptable, and these stays are open after it
+pub record IsFollowed (capacity : Capacity) (registry : List Stay) (a : Act) (open_stays : OpenStayList) : Type 0 where
+  pub may : is_acceptable capacity registry a ≡ true
+  pub after : open_stays ≡ open_stays_of (registry_after registry a)
