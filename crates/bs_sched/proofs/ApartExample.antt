@@ -1,5 +1,5 @@
 -- Two games that ran apart, each in a core of its own.
-use Rattle.std.proofs.Common.{◌≡◌, ℕ, zero, suc, ◌<◌, ◌≤◌, true, List, [], ◌∷◌, length, replicate, None, refl, sym, ap, subst, ◌∙◌, arith}
+use Rattle.std.proofs.Common.{◌≡◌, ℕ, zero, suc, ◌<◌, true, List, [], ◌∷◌, None, refl, sym, ap, subst, ◌∙◌, arith}
 use Rattle.std.specs.Prelude.{All, codes, fold, map, nat_le}
 use Rattle.std.specs.Str.{IsAscii, is_utf8}
 use Rattle.std.proofs.lemmas.Bool.{le-leb}
@@ -9,7 +9,7 @@ use Rattle.std.proofs.lemmas.Str.{IsUtf8-from_ascii, is_utf8-from_IsUtf8}
 use Rattle.bs_board.proofs.Chains.{and_both}
 use Rattle.bs_board.specs.declared.boards.board.Board.{Board}
 use Rattle.bs_board.specs.declared.commands.command.Command.TheVariants as command
-use Rattle.bs_board.specs.commands.Orders.{AreFitWords, IsFitOrders, orders_of}
+use Rattle.bs_board.specs.commands.Orders.{IsFitOrders, orders_of}
 use Rattle.bs_board.specs.commands.Setup.{is_fit_setup}
 use Rattle.bs_board.specs.plans.Plan.{GameRow}
 use Rattle.bs_registry.specs.Blocks.{blocks_of}

@@ -2,13 +2,12 @@
 use Rattle.std.proofs.Common.{◌≡◌, ◌≢◌, ℕ, suc, ◌+◌, ◌*◌, ◌<◌, ◌≤◌, Bool, true, false, List, [], ◌∷◌, ◌++◌, length, map, Option, Some, None, refl, sym, ap, subst, ◌∙◌, arith}
 use Rattle.std.specs.Prelude.{All, AllPairs, slice_index_or}
 use Rattle.std.proofs.Math.ListN.{get_or-map}
-use Rattle.std.proofs.lemmas.List.{append-nil, append_assoc, length-map, length_push, map_push}
+use Rattle.std.proofs.lemmas.List.{append-nil, append_assoc, length-map, length_push}
 use Rattle.std.proofs.lemmas.List.Elements.{All-nil, All-weaker}
 use Rattle.std.proofs.lemmas.List.Sums.{sum_by-cons}
 use Rattle.bs_board.specs.declared.commands.command.Command.{Command}
 use Rattle.bs_board.specs.plans.Plan.{GameRow}
-use Rattle.bs_heap.specs.PackedPlaces.{AreApart}
-use Rattle.bs_heap.specs.Packing.{Packing, no_packing, numbers_of}
+use Rattle.bs_heap.specs.Packing.{Packing, numbers_of}
 use Rattle.bs_heap.specs.Renaming.{renamed_packing}
 use Rattle.bs_heap.proofs.RenamedHeap.{packing_places}
 use Rattle.bs_pool.specs.declared.reservation.Reservation.{Reservation}
@@ -16,18 +15,17 @@ use Rattle.bs_pool.specs.Ledger.{Ledger, size}
 use Rattle.bs_pool.specs.Woven.{ArePlaces, place_in}
 use Rattle.bs_pool.proofs.Woven.{places_grow}
 use Rattle.bs_registry.specs.declared.blocks.TheConstants.{MOST_STAYS}
-use Rattle.bs_sched.specs.declared.event.Event.{Event}
-use Rattle.bs_sched.specs.Assembly.{RanAlone, own_frames, own_lane, reservation_at}
+use Rattle.bs_sched.specs.Assembly.{RanAlone}
 use Rattle.bs_sched.specs.Core.{CoreView}
 use Rattle.bs_sched.specs.Game.{GameView}
-use Rattle.bs_sched.specs.LoneStay.{LoneView, kept_of_core, left_of_core}
+use Rattle.bs_sched.specs.LoneStay.{LoneView}
 use Rattle.bs_sched.specs.StaysApart.{PlayedStay, all_owners_kept, all_reservations_kept, frames_kept, lane_kept, owners_kept, packing_kept, packings_kept, reservations_kept}
 use Rattle.bs_sched.specs.StaysHeld.{blocks_held, blocks_of_pool, lone_of}
 use Rattle.bs_sched.specs.Storage.{frame_tag, packing_of, record_tag}
 use Rattle.bs_sched.specs.inner.Assembling.{ArePlaced, GatheredView, renamed_game}
 use Rattle.bs_sched.specs.inner.Game.{no_game}
 use Rattle.bs_sched.specs.inner.GamesLayout.{game_at, lanes_in}
-use Rattle.bs_sched.specs.inner.LoneStays.{AreNextStays, AreNumbersOf, HasRoom, IsNextStay, LieIn, LieInPool, gathered_stay, gathered_stays, laid_if, placed_stay, without_tally}
+use Rattle.bs_sched.specs.inner.LoneStays.{AreNextStays, AreNumbersOf, IsNextStay, LieInPool, gathered_stay, gathered_stays, laid_if, placed_stay, without_tally}
 use Rattle.bs_sched.proofs.ApartNeeds.{held_below}
 use Rattle.bs_sched.proofs.ApartReservations.{own_reserved}
 use Rattle.bs_sched.proofs.Gathered.{AreBelow, one_lane, pushed, pushed_placed, row_new, still_below}

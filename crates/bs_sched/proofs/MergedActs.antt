@@ -11,16 +11,15 @@ use Rattle.bs_board.specs.plans.Plan.{GameRow}
 use Rattle.bs_registry.specs.Stays.{Stay, closed_stay, is_in, no_stay, open_stay, stay_at, with_admitted, with_closed}
 use Rattle.bs_sched.specs.declared.event.Event.{Event}
 use Rattle.bs_sched.specs.declared.event.Event.TheVariants as event
-use Rattle.bs_sched.specs.declared.step.Step.{Step}
 use Rattle.bs_sched.specs.declared.step.Step.TheVariants as step
 use Rattle.bs_sched.specs.Assembly.{jobs_at, setting_with}
 use Rattle.bs_sched.specs.LoneStay.{LoneView}
 use Rattle.bs_sched.specs.Machine.{Setting}
 use Rattle.bs_sched.specs.Registry.{capacity_of, commands_to, rows_in}
-use Rattle.bs_sched.specs.StaysApart.{PlayedApart, PlayedStay, acts_with_jobs, all_rows, are_acts_in, jobs_kept, jobs_left, leaves_in, played_journal, stay_of_row}
+use Rattle.bs_sched.specs.StaysApart.{PlayedApart, PlayedStay, acts_with_jobs, are_acts_in, jobs_kept, jobs_left, leaves_in, played_journal, stay_of_row}
 use Rattle.bs_sched.specs.StaysHeld.{lone_of, steps_of}
 use Rattle.bs_sched.specs.Core.{opened_core}
-use Rattle.bs_sched.specs.inner.Merging.{act_taken, acts_taken, all_jobs, first_hand, lefts_after, lefts_then, merged, taken_from}
+use Rattle.bs_sched.specs.inner.Merging.{act_taken, acts_taken, all_jobs, first_hand, lefts_after, merged, taken_from}
 use Rattle.bs_sched.proofs.Merged.{jobs_again}
 use Rattle.bs_sched.proofs.ToldStays.{leaves_here, leaves_other, never_again, told_here, told_other}
 

@@ -3,7 +3,7 @@
 use Rattle.std.proofs.Common.{◌≡◌, ℕ, suc, ◌+◌, ◌<◌, ◌≤◌, Bool, true, false, List, [], ◌∷◌, ◌++◌, length, map, replicate, take, drop, Option, None, refl, sym, ap, subst, ◌∙◌, arith, inl, inr}
 use Rattle.std.specs.Prelude.{fold, slice_index_or, slice_set}
 use Rattle.std.proofs.Math.Seq.{map-set_same}
-use Rattle.std.proofs.lemmas.Bool.{and_right, cases_Bool, cases_eq, cases_lt, eq-eqb, ne_eqb, lt-ltb}
+use Rattle.std.proofs.lemmas.Bool.{and_right, cases_Bool, cases_eq, cases_lt}
 use Rattle.std.proofs.lemmas.Grind.{get_or-set_at}
 use Rattle.std.proofs.lemmas.List.{append-nil, append_assoc, get_or-set_other, get_or-set_same, get_or_append_left, get_or_push, length-map, length-set, length-take-le, length_push, map-append, map_push, set-get_or, set_split}
 use Rattle.std.proofs.lemmas.List.Sums.{fold-append, get_or-le-sum_by, sum_by-set}
@@ -15,7 +15,7 @@ use Rattle.bs_heap.specs.Packing.{no_packing}
 use Rattle.bs_pool.specs.declared.reservation.Reservation.{Reservation}
 use Rattle.bs_pool.specs.Ledger.{ledger_of, size}
 use Rattle.bs_registry.specs.Blocks.{blocks_of}
-use Rattle.bs_registry.specs.Stays.{Stay, closed_stay, is_in, no_stay, open_stay, stay_at, with_admitted, with_closed}
+use Rattle.bs_registry.specs.Stays.{Stay, closed_stay, is_in, no_stay, stay_at, with_admitted, with_closed}
 use Rattle.bs_sched.specs.declared.event.Event.{Event}
 use Rattle.bs_sched.specs.declared.event.Event.TheVariants as event
 use Rattle.bs_sched.specs.Assembly.{RanAlone, jobs_at, own_frames, own_lane, setting_with}

@@ -1,6 +1,6 @@
 -- Stays that come and go, each of which was played in a core of its own, gathered: the core that the
 -- law of stays that come and go speaks of.
-use Rattle.std.proofs.Common.{◌≡◌, ℕ, suc, ◌+◌, ◌*◌, ◌<◌, ◌≤◌, Bool, true, false, List, [], ◌∷◌, ◌++◌, length, map, Option, refl, sym, ap, subst, ◌∙◌, arith}
+use Rattle.std.proofs.Common.{◌≡◌, ℕ, suc, ◌+◌, ◌*◌, ◌<◌, ◌≤◌, Bool, true, false, List, [], ◌∷◌, length, map, Option, refl, sym, ap, subst, ◌∙◌, arith}
 use Rattle.std.specs.Prelude.{All}
 use Rattle.std.proofs.lemmas.List.{length-map}
 use Rattle.std.proofs.lemmas.List.Elements.{All-nil, All-cons}
@@ -20,7 +20,7 @@ use Rattle.bs_sched.specs.Journal.{IsItsJournal}
 use Rattle.bs_sched.specs.Lane.{is_idle}
 use Rattle.bs_sched.specs.LoneStay.{LoneView}
 use Rattle.bs_sched.specs.SharedMemory.{IsHosted}
-use Rattle.bs_sched.specs.StaysApart.{PlayedApart, PlayedStay, all_rows, lane_kept, stay_of_row, stays_assembled}
+use Rattle.bs_sched.specs.StaysApart.{PlayedStay, all_rows, lane_kept, stay_of_row, stays_assembled}
 use Rattle.bs_sched.specs.Registry.{commands_to}
 use Rattle.bs_sched.specs.StaysHeld.{WerePlayed, blocks_held, lone_of}
 use Rattle.bs_sched.specs.inner.Assembling.{ArePlaced, GatheredView, games_of, gathered_of}

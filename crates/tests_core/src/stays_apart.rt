@@ -5,7 +5,7 @@ use crate::threads::{check_records, check_replies};
 use bs_block::Block;
 use bs_board::{Command, Direction};
 use bs_samples::{holds, new_of_three, new_solo, row, same, third_goes};
-use bs_sched::{Core, LoneStay, Rest, SharedRow, Shared, Step};
+use bs_sched::{Core, LoneStay, Rest, Shared, SharedRow, Step};
 use std::alloc::Global;
 use std::test::Fail;
 
@@ -21,8 +21,11 @@ enum Act {
 }
 
 const QUOTA: u32 = 4096;
+
 const PLAN: [(&str, u32); 2] = [("a", QUOTA), ("b", QUOTA)];
+
 const STAYS: usize = 5;
+
 const BLOCKS: usize = 24;
 
 /// The stay of row 0 leaves with a game and is admitted again. Row 3 leaves without a command, row 4
@@ -62,7 +65,12 @@ fn command_of(alloc: Global, act: Act) -> Result<Option<(usize, Command)>, Fail>
 }
 
 /// Answers all commands that wait in that stay, as worker 1.
-fn answer_all(alloc: Global, core: &mut Core<CAP>, game: usize, waiting: usize) -> Result<(), Fail> {
+fn answer_all(
+    alloc: Global,
+    core: &mut Core<CAP>,
+    game: usize,
+    waiting: usize,
+) -> Result<(), Fail> {
     for _ in core.replies(game).len()..waiting {
         core.answer_here(alloc, 1, game)?;
     }
@@ -90,7 +98,8 @@ fn play_together(alloc: Global) -> Result<Core<CAP>, Fail> {
             hand(alloc, &mut core, row, command)?;
         }
         if let Act::Admit(name) = act {
-            core.admit(alloc, row(alloc, name, QUOTA)?).map_err(|_| Fail::from("admitted"))?;
+            core.admit(alloc, row(alloc, name, QUOTA)?)
+                .map_err(|_| Fail::from("admitted"))?;
         }
         if let Act::Leave(game) = act {
             answer_all(alloc, &mut core, game, count_commands(&ACTS[..index], game))?;
@@ -134,7 +143,9 @@ fn steps(alloc: Global) -> Result<Vec<Step>, Fail> {
     let mut steps = Vec::new(alloc);
     for act in ACTS {
         steps.push(match act {
-            Act::New(row) | Act::Solo(row) | Act::Move(row) | Act::Show(row) => Step::Hand(row as u32),
+            Act::New(row) | Act::Solo(row) | Act::Move(row) | Act::Show(row) => Step::Hand(
+                row as u32,
+            ),
             Act::Admit(name) => Step::Admit(SharedRow::new(alloc, row(alloc, name, QUOTA)?)?),
             Act::Leave(row) => Step::Leave(row as u32),
         })?;
@@ -145,7 +156,13 @@ fn steps(alloc: Global) -> Result<Vec<Step>, Fail> {
 /// The core of all stays, each of which is played in a core of its own.
 fn play_apart(alloc: Global) -> Result<Core<CAP>, Fail> {
     let core = core_of(alloc, &PLAN, BLOCKS)?;
-    let Shared { rows, workers, blocks, mut cores, rest: mut free } = core.share_out(alloc)?;
+    let Shared {
+        rows,
+        workers,
+        blocks,
+        mut cores,
+        rest: mut free,
+    } = core.share_out(alloc)?;
     let mut stays = Vec::new(alloc);
     for game in 0..PLAN.len() {
         let core = cores.remove(0);
@@ -161,7 +178,12 @@ fn play_apart(alloc: Global) -> Result<Core<CAP>, Fail> {
         }
     }
     same("stays", stays.len(), STAYS)?;
-    let rest = Rest { rows, workers, blocks, free };
+    let rest = Rest {
+        rows,
+        workers,
+        blocks,
+        free,
+    };
     Ok(Core::assemble_stays(alloc, rest, stays, steps(alloc)?)?)
 }
 
