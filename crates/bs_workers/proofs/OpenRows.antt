@@ -2,6 +2,7 @@
 use Rattle.std.proofs.Common.{◌≡◌, ◌≢◌, ℕ, suc, ◌+◌, ◌-◌, ◌<◌, Bool, true, false, not, List, [], ◌∷◌, ◌++◌, length, map, take, get_or, Option, Some, None, refl, sym, ap, subst, ◌∙◌, arith, inl, inr}
 use Rattle.std.specs.Prelude.{◌&&◌, fold, nat_eq, nat_le, nat_lt}
 use Rattle.std.specs.List.{filter, list_any, position}
+use Rattle.std.specs.Option.{is_none, is_some}
 use Rattle.std.proofs.lemmas.Bool.{and_from, and_parts, cases_Bool, lt-ltb}
 use Rattle.std.proofs.lemmas.Bool.Decides.{eqb_tells}
 use Rattle.std.proofs.lemmas.List.{get_or_default, length-append, length-set, map-append, take_more}
@@ -16,6 +17,7 @@ use Rattle.bs_registry.specs.Registry.{Listing, is_numbered, row_open, rows_in, 
 use Rattle.bs_registry.specs.Stays.{Capacity, Stay, blocks_in_registry, closed_stay, has_name, is_full, is_in, may_admit_in, open_stay, refusal_in_order, stay_at, with_admitted, with_closed}
 use Rattle.bs_registry.specs.declared.registry.Listed.{Listed}
 use Rattle.bs_registry.specs.declared.blocks.TheConstants.{MOST_STAYS}
+use Rattle.bs_registry.specs.declared.refusal.Refusal.{Refusal}
 use Rattle.bs_registry.specs.declared.refusal.Refusal.TheVariants as refused
 use Rattle.bs_registry.proofs.OpenStays.{open_law}
 use Rattle.bs_registry.proofs.Rows.{filtered_rows}
@@ -37,16 +39,16 @@ numbered first number (entry ∷ registry) any =
             | inl same ↦
                 let here : number ≡ first + 0 = sym same.1 ∙ omega arith in
                 let there : is_in (entry ∷ registry) 0 ≡ true = and_from (nat_lt 0 (suc (length registry))) entry.is_open (lt-ltb 0 (suc (length registry)) (omega arith)) on in
-                (0, (here, there))
+                (0, here, there)
             | inr other ↦
                 let later : list_any (λ (stay : ℕ × GameRow). nat_eq stay.0 number) (open_from (first + 1) registry) ≡ true = rw (on, other.0) at any in
                 let rest = numbered (first + 1) number registry later in
-                (suc rest.0, (rest.1.0 ∙ omega arith, rest.1.1))
+                (suc rest.0, rest.1 ∙ omega arith, rest.2)
           ]
       | inr off ↦
           let later : list_any (λ (stay : ℕ × GameRow). nat_eq stay.0 number) (open_from (first + 1) registry) ≡ true = rw off at any in
           let rest = numbered (first + 1) number registry later in
-          (suc rest.0, (rest.1.0 ∙ omega arith, rest.1.1))
+          (suc rest.0, rest.1 ∙ omega arith, rest.2)
     ]
 
 pub is_there : (registry : List Stay) (listing : Listing (Unit {0})) (number place : ℕ) → seen listing ≡ open_stays_of registry
@@ -56,13 +58,13 @@ is_there registry listing number place sees found =
     let at = position-Some (is_numbered number) listing.stays place none found in
     let x = get_or listing.stays place none in
     let some : list_any (is_numbered number) listing.stays ≡ true
-    = list_any-from_Any (is_numbered number) listing.stays (place, (x, (at.0, (get_or_default listing.stays place x none at.0, at.1.0)))) in
+    = list_any-from_Any (is_numbered number) listing.stays (place, x, at.0, get_or_default listing.stays place x none at.0, at.1) in
     let rows : rows_in listing ≡ open_of registry = ap (λ (o : OpenStayList). o.stays) sees in
     let any : list_any (λ (stay : ℕ × GameRow). nat_eq stay.0 number) (open_of registry) ≡ true
     = ap (list_any (λ (stay : ℕ × GameRow). nat_eq stay.0 number)) (sym rows)
     ∙ list_any_map (λ (stay : ℕ × GameRow). nat_eq stay.0 number) row_open listing.stays ∙ some in
     let one = numbered 0 number registry any in
-    subst (λ n. is_in registry n ≡ true) (sym (one.1.0 ∙ omega arith)) one.1.1
+    subst (λ n. is_in registry n ≡ true) (sym (one.1 ∙ omega arith)) one.2
 
 -- no reason stands against a row, so it may be admitted
 
@@ -77,7 +79,7 @@ unrefused false false needed left none =
 
 pub may_admit : (capacity : Capacity) (registry : List Stay) (listing : Listing (Unit {0})) (row : GameRow) → seen listing ≡ open_stays_of registry
     → refusal_in_order (list_any (bears row.game) (rows_in listing)) (is_full_open listing.made (rows_in listing)) (blocks_of capacity.cap row)
-      (capacity.blocks - blocks_in capacity.cap (rows_in listing)) ≡ None
+    (capacity.blocks - blocks_in capacity.cap (rows_in listing)) ≡ None
     → may_admit_in capacity registry row ≡ true
 may_admit capacity registry listing row sees none =
     let told = open_law capacity.cap registry in
@@ -92,23 +94,23 @@ may_admit capacity registry listing row sees none =
     ∙ ap (λ b. not (list_any (bears row.game) (rows_in listing)) && (not b && nat_le (blocks_of capacity.cap row) (capacity.blocks - blocks_in_registry capacity.cap registry))) full
     ∙ ap (λ n. not (list_any (bears row.game) (rows_in listing)) && (not (is_full_open listing.made (rows_in listing)) && nat_le (blocks_of capacity.cap row) (capacity.blocks - n))) blocks
     ∙ unrefused (list_any (bears row.game) (rows_in listing)) (is_full_open listing.made (rows_in listing)) (blocks_of capacity.cap row)
-      (capacity.blocks - blocks_in capacity.cap (rows_in listing)) none
+    (capacity.blocks - blocks_in capacity.cap (rows_in listing)) none
 
 -- the open stays after an act
 
 abbrev open_stays_with : ℕ → List (ℕ × GameRow) → OpenStayList
 open_stays_with made stays = record { made = made; stays = stays }
 
-pub follows_hand : (capacity : Capacity) (registry : List Stay) (listing : Listing (Unit {0})) (number place : ℕ) (command : Command) → seen listing ≡ open_stays_of registry
+hand_followed : (capacity : Capacity) (registry : List Stay) (listing : Listing (Unit {0})) (number place : ℕ) (command : Command) → seen listing ≡ open_stays_of registry
     → position (is_numbered number) listing.stays ≡ Some place → IsFollowed capacity registry (act.Hand number command) (seen listing)
-follows_hand capacity registry listing number place command sees found =
+hand_followed capacity registry listing number place command sees found =
     record { may = is_there registry listing number place sees found; after = sees }
 
-pub follows_admit : (capacity : Capacity) (registry : List Stay) (listing new : Listing (Unit {0})) (row : GameRow) → seen listing ≡ open_stays_of registry
+admit_followed : (capacity : Capacity) (registry : List Stay) (listing new : Listing (Unit {0})) (row : GameRow) → seen listing ≡ open_stays_of registry
     → refusal_in_order (list_any (bears row.game) (rows_in listing)) (is_full_open listing.made (rows_in listing)) (blocks_of capacity.cap row)
-      (capacity.blocks - blocks_in capacity.cap (rows_in listing)) ≡ None
+    (capacity.blocks - blocks_in capacity.cap (rows_in listing)) ≡ None
     → new ≡ with_stay row tt listing → IsFollowed capacity registry (act.Admit row) (seen new)
-follows_admit capacity registry listing new row sees none is =
+admit_followed capacity registry listing new row sees none is =
     let rows : rows_in listing ≡ open_of registry = ap (λ (o : OpenStayList). o.stays) sees in
     let made : listing.made ≡ length registry = ap (λ (o : OpenStayList). o.made) sees in
     let many : length (registry ++ open_stay row ∷ []) ≡ length registry + 1 = omega (arith, length-append registry (open_stay row ∷ [])) in
@@ -124,9 +126,9 @@ follows_admit capacity registry listing new row sees none is =
           ∙ ap (λ n. open_stays_with n (open_of (with_admitted row registry))) (sym many);
     }
 
-pub follows_leave : (capacity : Capacity) (registry : List Stay) (listing new : Listing (Unit {0})) (number place : ℕ) → seen listing ≡ open_stays_of registry
+leave_followed : (capacity : Capacity) (registry : List Stay) (listing new : Listing (Unit {0})) (number place : ℕ) → seen listing ≡ open_stays_of registry
     → position (is_numbered number) listing.stays ≡ Some place → new ≡ without_stay number listing → IsFollowed capacity registry (act.Leave number) (seen new)
-follows_leave capacity registry listing new number place sees found is =
+leave_followed capacity registry listing new number place sees found is =
     let rows : rows_in listing ≡ open_of registry = ap (λ (o : OpenStayList). o.stays) sees in
     let made : listing.made ≡ length registry = ap (λ (o : OpenStayList). o.made) sees in
     record {
@@ -138,6 +140,52 @@ follows_leave capacity registry listing new number place sees found is =
           ∙ ap (open_stays_with (length registry)) (sym ((open_law capacity.cap registry).leaves number))
           ∙ ap (λ n. open_stays_with n (open_of (with_closed number registry))) (sym (length-set registry number (closed_stay (stay_at registry number))));
     }
+
+-- what a search has found
+
+found : (o : Option ℕ) → is_some o ≡ true → (place : ℕ) × (o ≡ Some place)
+found None on = absurd cc
+found (Some place) on = (place, refl)
+
+found_so : (o : Option ℕ) → is_none o ≡ false → (place : ℕ) × (o ≡ Some place)
+found_so None off = absurd cc
+found_so (Some place) off = (place, refl)
+
+none_of : (o : Option Refusal) → is_some o ≡ false → o ≡ None
+none_of None off = refl
+none_of (Some refusal) off = absurd cc
+
+pub follows_hand : (capacity : Capacity) (registry : List Stay) (listing : Listing (Unit {0})) (a : Act) (number : ℕ) (command : Command) (at : Option ℕ)
+    → a ≡ act.Hand number command → seen listing ≡ open_stays_of registry → at ≡ position (is_numbered number) listing.stays → is_some at ≡ true
+    → IsFollowed capacity registry a (seen listing)
+follows_hand capacity registry listing a number command at is sees looked some =
+    let one = found at some in
+    subst (λ (b : Act). IsFollowed capacity registry b (seen listing)) (sym is)
+    (hand_followed capacity registry listing number one.0 command sees (sym looked ∙ one.1))
+
+pub follows_leave : (capacity : Capacity) (registry : List Stay) (listing new : Listing (Unit {0})) (a : Act) (number : ℕ) (at : Option ℕ) → a ≡ act.Leave number
+    → seen listing ≡ open_stays_of registry → at ≡ position (is_numbered number) listing.stays → is_none at ≡ false → new ≡ without_stay number listing
+    → IsFollowed capacity registry a (seen new)
+follows_leave capacity registry listing new a number at is sees looked some removed =
+    let one = found_so at some in
+    subst (λ (b : Act). IsFollowed capacity registry b (seen new)) (sym is)
+    (leave_followed capacity registry listing new number one.0 sees (sym looked ∙ one.1) removed)
+
+pub follows_admit : (capacity : Capacity) (registry : List Stay) (listing new : Listing (Unit {0})) (a : Act) (row first second third copy : GameRow) (needed left : ℕ)
+    (reason : Option Refusal) → a ≡ act.Admit row → seen listing ≡ open_stays_of registry → first ≡ row → second ≡ row → third ≡ row → copy ≡ third
+    → needed ≡ blocks_of capacity.cap first → left ≡ capacity.blocks - blocks_in capacity.cap (rows_in listing)
+    → reason ≡ refusal_in_order (list_any (bears second.game) (rows_in listing)) (is_full_open listing.made (rows_in listing)) needed left
+    → is_some reason ≡ false → new ≡ with_stay copy tt listing → IsFollowed capacity registry a (seen new)
+follows_admit capacity registry listing new a row first second third copy needed left reason is sees one two three copied needs has judged none pushed =
+    let refuses : refusal_in_order (list_any (bears row.game) (rows_in listing)) (is_full_open listing.made (rows_in listing)) (blocks_of capacity.cap row)
+    (capacity.blocks - blocks_in capacity.cap (rows_in listing)) ≡ None
+    = ap (λ n. refusal_in_order (list_any (bears row.game) (rows_in listing)) (is_full_open listing.made (rows_in listing)) n
+    (capacity.blocks - blocks_in capacity.cap (rows_in listing))) (sym (needs ∙ ap (blocks_of capacity.cap) one))
+    ∙ ap (λ n. refusal_in_order (list_any (bears row.game) (rows_in listing)) (is_full_open listing.made (rows_in listing)) needed n) (sym has)
+    ∙ ap (λ (r : GameRow). refusal_in_order (list_any (bears r.game) (rows_in listing)) (is_full_open listing.made (rows_in listing)) needed left) (sym two)
+    ∙ sym judged ∙ none_of reason none in
+    subst (λ (b : Act). IsFollowed capacity registry b (seen new)) (sym is)
+    (admit_followed capacity registry listing new row sees refuses (pushed ∙ ap (λ r. with_stay r tt listing) (copied ∙ three)))
 
 -- all acts so far
 

@@ -1,5 +1,5 @@
 -- Stays that were played, as the call that puts them together requires them, and what their core is.
-use Rattle.std.proofs.Common.{◌≡◌, ℕ, suc, ◌+◌, ◌<◌, Bool, true, false, List, [], ◌∷◌, ◌++◌, length, map, get_or, Option, Some, None, refl, sym, ap, subst, ◌∙◌, arith, inl, inr}
+use Rattle.std.proofs.Common.{◌≡◌, ℕ, zero, suc, ◌+◌, ◌<◌, Bool, true, false, List, [], ◌∷◌, ◌++◌, length, map, get_or, Option, Some, None, refl, sym, ap, subst, ◌∙◌, arith, inl, inr}
 use Rattle.std.specs.Prelude.{slice_index_or, slice_set, All}
 use Rattle.std.specs.List.{filter_map, list_all}
 use Rattle.std.proofs.Math.ListN.{get_or-eq_default}
@@ -76,7 +76,7 @@ each_of : (cap workers : ℕ) (row : ℕ → GameRow) (commands : ℕ → List C
     → PlayedAlone cap workers (row 0) (commands 0) (leaves 0) first
     → ((r : ℕ) → r < length more → PlayedAlone cap workers (row (suc r)) (commands (suc r)) (leaves (suc r)) (stay_of_row more r))
     → (r : ℕ) → r < length (first ∷ more) → PlayedAlone cap workers (row r) (commands r) (leaves r) (stay_of_row (first ∷ more) r)
-each_of cap workers row commands leaves first more one rest 0 within = one
+each_of cap workers row commands leaves first more one rest zero within = one
 each_of cap workers row commands leaves first more one rest (suc r) within = rest r (omega (arith, within))
 
 pub gathered : (cap workers : ℕ) (row : ℕ → GameRow) (commands : ℕ → List Command) (leaves : ℕ → Bool) (stays : List LoneView)

@@ -243,7 +243,11 @@ impl<R: Threads + Sync, G: Gate> Player<'_, R, G> {
         threads: usize,
         free: &mut Vec<Block<CAP>>,
     ) -> Result<Vec<Lot<CAP>>, AllocError> {
-        let share = if threads == 0 { 0 } else { free.len() / threads };
+        let share = if threads == 0 {
+            0
+        } else {
+            free.len() / threads
+        };
         let mut lots = Vec::with_capacity(self.alloc, threads)?;
         for _ in 0..threads {
             lots.push(Lot::new(draw(self.alloc, free, share)?))?;

@@ -3,7 +3,7 @@ ghost use Rattle.std.specs.Prelude.{◌≡◌, ◌≤◌, false, true, IfErr, If
 ghost use Rattle.bs_block.specs.Bytes.{IsCapacity};
 ghost use Rattle.bs_pool.specs.Ledger.{size};
 ghost use Rattle.bs_sched.specs.Assembly.{setting_with};
-ghost use Rattle.bs_sched.specs.Core.{opened_core};
+ghost use Rattle.bs_sched.specs.Core.{CoreView, opened_core};
 ghost use Rattle.bs_sched.specs.SharedMemory.{IsHosted};
 ghost use Rattle.bs_sched.specs.declared.cores.TheConstants.{MOST_WORKERS};
 ghost use Rattle.bs_workers.specs.Acts.{are_acceptable, capacity_of_core, opened};
@@ -105,7 +105,8 @@ fn run_threads<const CAP: usize, R: Threads + Sync, G: Gate>(
     requires workers { rest.workers ≤ MOST_WORKERS }
     requires hosted { IsHosted (setting_with CAP rest.blocks rest.workers) rest.rows }
     requires acts { are_acceptable (record { cap = CAP; blocks = rest.blocks }) (opened rest.rows) acts.now ≡ true }
-    ensures run { IfOk result (λ done. IsRunOf (opened_core CAP rest.entry.blocks rest.entry.workers rest.entry.rows) acts.now done) }
+    ensures run { (old : CoreView) → old ≡ opened_core CAP rest.entry.blocks rest.entry.workers rest.entry.rows → rest.entry.rows ≡ old.games.rows
+        → rest.entry.blocks ≡ size old.games.storage.pool → IfOk result (λ done. IsRunOf old acts.now done) }
     ensures cause { IfErr result (IsCause (G.may_refuse gate.now)) }
 {
     let given = opening_of(alloc, &rest)?;

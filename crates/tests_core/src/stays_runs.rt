@@ -59,12 +59,7 @@ fn rounds(alloc: Global) -> Result<Vec<Act>, Fail> {
 }
 
 /// Checks that the stay of both cores is open or not, and has the same replies and records.
-fn check_stay(
-    alloc: Global,
-    one: &Core<CAP>,
-    other: &Core<CAP>,
-    stay: usize,
-) -> Result<(), Fail> {
+fn check_stay(alloc: Global, one: &Core<CAP>, other: &Core<CAP>, stay: usize) -> Result<(), Fail> {
     holds("a stay", stay < one.rows() && stay < other.rows())?;
     same("open", one.is_open(stay), other.is_open(stay))?;
     same("replies", one.replies(stay).len(), 4)?;
