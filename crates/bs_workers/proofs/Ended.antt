@@ -29,7 +29,7 @@ row_there lanes game = get_or-map (λ (x : Lane). x.row) lanes game no_lane
 
 -- the rows that are admitted, and the commands of a stay
 
-rows_of_acts : (events : List Event) → rows_in events ≡ rows_admitted (acts_of events)
+pub rows_of_acts : (events : List Event) → rows_in events ≡ rows_admitted (acts_of events)
 rows_of_acts [] = refl
 rows_of_acts (event.Hand game command ∷ events) = rows_of_acts events
 rows_of_acts (event.Take worker job ∷ events) = rows_of_acts events
@@ -37,7 +37,7 @@ rows_of_acts (event.Put worker job ∷ events) = rows_of_acts events
 rows_of_acts (event.Admit row ∷ events) = ap (λ rows. row ∷ rows) (rows_of_acts events)
 rows_of_acts (event.Leave game ∷ events) = rows_of_acts events
 
-commands_of_acts : (stay : ℕ) (events : List Event) → commands_to stay events ≡ filter_map (command_in stay) (acts_of events)
+pub commands_of_acts : (stay : ℕ) (events : List Event) → commands_to stay events ≡ filter_map (command_in stay) (acts_of events)
 commands_of_acts stay [] = refl
 commands_of_acts stay (event.Hand game command ∷ events) =
     elim (cases_Bool (nat_eq game stay)) [

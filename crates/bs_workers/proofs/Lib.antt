@@ -3,8 +3,11 @@ pub mod Acted
 pub mod Calm
 pub mod Ended
 pub mod GoneOn
+pub mod ListedStays
 pub mod MadeActs
+pub mod OpenRows
 pub mod Played
+pub mod PlayedStays
 pub mod Repeated
 pub mod RunAlone
 pub mod Sizes

@@ -2,4 +2,5 @@
 pub mod Apart
 pub mod Faults
 pub mod Making
+pub mod Stays
 pub mod Stops

@@ -1,18 +1,23 @@
 //! Plays the games of a core on one thread or several, until every command is answered.
 #![tactic(auto)]
 
+mod acceptable;
 mod act;
 mod alone;
 mod apart;
+mod crew;
 mod fault;
 mod gate;
 mod law;
 mod places;
+mod player;
 mod runs;
 mod sharing;
+mod stays;
 mod stop;
 mod team;
 mod together;
+mod turns;
 
 pub use act::Act;
 pub use fault::Run;

@@ -3,7 +3,7 @@ ghost use Rattle.std.specs.Prelude.{◌≡◌, ◌≤◌, false, true, IfErr, If
 ghost use Rattle.bs_block.specs.Bytes.{IsCapacity};
 ghost use Rattle.bs_pool.specs.Ledger.{size};
 ghost use Rattle.bs_sched.specs.Assembly.{setting_with};
-ghost use Rattle.bs_sched.specs.Core.{opened_core};
+ghost use Rattle.bs_sched.specs.Core.{CoreView, opened_core};
 ghost use Rattle.bs_sched.specs.SharedMemory.{IsHosted};
 ghost use Rattle.bs_sched.specs.declared.cores.TheConstants.{MOST_WORKERS};
 ghost use Rattle.bs_workers.specs.Acts.{are_acceptable, capacity_of_core, opened};
@@ -11,7 +11,8 @@ ghost use Rattle.bs_workers.specs.Causes.{IsCause};
 ghost use Rattle.bs_workers.specs.declared.fault.Run.TheVariants as cause;
 ghost use Rattle.bs_workers.specs.Run.{IsRunOf};
 
-use crate::act::{Act, are_commands, only_mover};
+use crate::acceptable::are_acceptable;
+use crate::act::{Act, count_admitted, only_mover};
 use crate::alone::run_alone;
 use crate::apart::run_apart;
 use crate::fault::Run;
@@ -19,8 +20,8 @@ use crate::gate::Gate;
 use crate::stop::Stop;
 use bs_block::{MOST_CAPACITY, UNIT};
 use bs_board::{Plan, Rows, Version};
-use bs_sched::{Core, Open};
-use std::alloc::Global;
+use bs_sched::{Core, Open, Rest};
+use std::alloc::{AllocError, Global};
 use std::thread::Threads;
 
 /// Whether cores with blocks of that capacity can be opened.
@@ -37,8 +38,12 @@ fn is_alone<const CAP: usize>(core: &Core<CAP>, acts: &[Act], threads: usize) ->
     if !can_open::<CAP>() {
         return true;
     }
-    let rows = core.rows();
-    threads <= 1 || !are_commands(acts) || (rows <= 1 && only_mover(acts, rows).is_none())
+    threads <= 1 || is_lone(core.rows(), acts)
+}
+
+/// Whether the acts are for one stay at most, and do not move it.
+fn is_lone(rows: usize, acts: &[Act]) -> bool {
+    rows <= 1 && rows.saturating_add(count_admitted(acts)) <= 1 && only_mover(acts, 1).is_none()
 }
 
 /// What a newly opened core is opened with.
@@ -47,6 +52,19 @@ struct Opening {
     rows: Rows,
     blocks: usize,
     workers: usize,
+}
+
+/// What the core was opened with.
+fn opening_of<const CAP: usize>(alloc: Global, rest: &Rest<CAP>) -> Result<Opening, AllocError>
+    ensures rows { IfOk result (λ given. given.rows ≡ rest.now.rows) }
+    ensures blocks { IfOk result (λ given. given.blocks ≡ rest.now.blocks) }
+    ensures workers { IfOk result (λ given. given.workers ≡ rest.now.workers) }
+{
+    Ok(Opening {
+        rows: rest.rows.copy(alloc)?,
+        blocks: rest.blocks,
+        workers: rest.workers,
+    })
 }
 
 /// Opens the core again. The first one was dropped, with its blocks.
@@ -73,8 +91,38 @@ fn open_again<const CAP: usize>(alloc: Global, given: Opening) -> Result<Core<CA
     }
 }
 
+/// Runs acceptable acts on several threads. If a check of the run failed, the run is repeated on
+/// one thread, which has that number.
+fn run_threads<const CAP: usize, R: Threads + Sync, G: Gate>(
+    rt: &R,
+    alloc: Global,
+    rest: Rest<CAP>,
+    acts: &[Act],
+    threads: usize,
+    gate: &G,
+) -> Result<Core<CAP>, Run>
+    requires capacity { IsCapacity CAP }
+    requires workers { rest.workers ≤ MOST_WORKERS }
+    requires hosted { IsHosted (setting_with CAP rest.blocks rest.workers) rest.rows }
+    requires acts { are_acceptable (record { cap = CAP; blocks = rest.blocks }) (opened rest.rows) acts.now ≡ true }
+    ensures run { (old : CoreView) → old ≡ opened_core CAP rest.entry.blocks rest.entry.workers rest.entry.rows → rest.entry.rows ≡ old.games.rows
+        → rest.entry.blocks ≡ size old.games.storage.pool → IfOk result (λ done. IsRunOf old acts.now done) }
+    ensures cause { IfErr result (IsCause (G.may_refuse gate.now)) }
+{
+    let given = opening_of(alloc, &rest)?;
+    match run_apart(rt, alloc, rest, acts, threads, gate) {
+        Ok(core) => Ok(core),
+        Err(Stop::Memory) => Err(Run::Memory),
+        Err(Stop::Refused) => Err(Run::Broken),
+        Err(Stop::Failed) => {
+            let core = open_again(alloc, given)?;
+            run_alone(alloc, core, acts, threads, gate)
+        }
+    }
+}
+
 /// Like `run`, for any acts. An act that the core refuses for a reason other than memory stops the
-/// run with `Broken`.
+/// run with `Broken`. One thread runs acts that are not acceptable.
 pub fn run_any<const CAP: usize, R: Threads + Sync, G: Gate>(
     rt: &R,
     alloc: Global,
@@ -93,27 +141,20 @@ pub fn run_any<const CAP: usize, R: Threads + Sync, G: Gate>(
     if is_alone(&core, acts, threads) {
         return run_alone(alloc, core, acts, threads, gate);
     }
-    let shared = core.share_out(alloc)?;
-    let given = Opening {
-        rows: shared.rows.copy(alloc)?,
-        blocks: shared.blocks,
-        workers: shared.workers,
-    };
-    match run_apart(rt, alloc, shared, acts, threads, gate) {
-        Ok(core) => Ok(core),
-        Err(Stop::Memory) => Err(Run::Memory),
-        Err(Stop::Refused) => Err(Run::Broken),
-        Err(Stop::Failed) => {
-            let core = open_again(alloc, given)?;
-            run_alone(alloc, core, acts, threads, gate)
-        }
+    let rest = core.into_rest(alloc)?;
+    if !are_acceptable::<CAP>(alloc, &rest.rows, rest.blocks, acts)? {
+        let given = opening_of(alloc, &rest)?;
+        drop(rest);
+        let core = open_again(alloc, given)?;
+        return run_alone(alloc, core, acts, threads, gate);
     }
+    run_threads(rt, alloc, rest, acts, threads, gate)
 }
 
 /// Makes the acts in order in a newly opened core, and answers all commands on at most `threads`
 /// threads, the caller's included. There are at most as many threads as workers in the core, and no
-/// more than games, if there are several. One thread runs acts that admit or dismiss games, and the
-/// commands of a single game without moves. `gate` gets the number of the thread. Each act must be
+/// more than stays, if there are several. One thread runs the commands of a single stay without
+/// moves. `gate` gets the number of the thread. Each act must be
 /// acceptable in its place, judged by the open stays alone: a command and a leave name an open
 /// stay; for an admitted row no open stay has its name, one more stay may be open, and its blocks
 /// are free besides those reserved for the open stays.
@@ -132,5 +173,10 @@ pub fn run<const CAP: usize, R: Threads + Sync, G: Gate>(
     ensures run { IfOk result (λ done. IsRunOf core.entry acts.now done) }
     ensures cause { IfErr result (IsCause (G.may_refuse gate.now)) }
 {
-    run_any(rt, alloc, core, acts, threads, gate)
+    let threads = threads.min(core.workers());
+    if is_alone(&core, acts, threads) {
+        return run_alone(alloc, core, acts, threads, gate);
+    }
+    let rest = core.into_rest(alloc)?;
+    run_threads(rt, alloc, rest, acts, threads, gate)
 }

@@ -20,7 +20,7 @@ pub(crate) fn coming_and_going(alloc: Global) -> Result<Vec<Act>, Fail> {
     Ok(acts)
 }
 
-fn push_admit(alloc: Global, acts: &mut Vec<Act>, name: &str) -> Result<(), Fail> {
+pub(crate) fn push_admit(alloc: Global, acts: &mut Vec<Act>, name: &str) -> Result<(), Fail> {
     acts.push(Act::Admit(SharedRow::new(alloc, row(alloc, name, 64)?)?))?;
     Ok(())
 }

@@ -115,22 +115,6 @@ fn the_gate_is_asked_about_each_job(rt: HostRuntime) -> Result<(), Fail> {
     Ok(())
 }
 
-/// If games come and go, the caller's thread runs all jobs, however many threads are requested: one
-/// for each of four commands, and four for a move of three snakes.
-#[test]
-fn one_thread_runs_all_jobs_if_games_leave(rt: HostRuntime) -> Result<(), Fail> {
-    let acts = coming_and_going(rt.alloc())?;
-    for threads in [1usize, 2, 4] {
-        let gate = Noting::new(rt.alloc());
-        run_with(&rt, &TWO, acts.as_slice(), (threads, threads), &gate)??;
-        let noted = gate.noted.into_inner();
-        same("jobs", noted.len(), 8)?;
-        let is_callers = noted.iter().all(|note| note.0 == threads);
-        holds("jobs of the caller", is_callers)?;
-    }
-    Ok(())
-}
-
 /// A `new` of three snakes and a `show` for each of the first `games` games.
 fn commands_without_moves(alloc: Global, games: usize) -> Result<Vec<Act>, Fail> {
     let mut acts = Vec::new(alloc);

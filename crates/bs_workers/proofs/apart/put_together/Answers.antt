@@ -1,35 +1,35 @@
--- The assembled core has the plan and the blocks, and its journal makes the acts.
-use Rattle.std.proofs.Common.{ap, refl, ◌∙◌, arith}
+-- The core of all stays has the plan and the blocks, its journal makes the acts, and it is idle.
+use Rattle.std.proofs.Common.{◌≡◌, length, map, refl, rules, sym, ap, ◌∙◌, arith}
 use Rattle.bs_pool.specs.Ledger.{size}
-use Rattle.bs_sched.specs.Assembly.{RanInOrder}
 use Rattle.bs_sched.specs.Core.{CoreView}
-use Rattle.bs_sched.proofs.Assembly.{assembly_law}
+use Rattle.bs_sched.specs.StaysHeld.{AreHeld}
 use Rattle.bs_workers.specs.Run.{acts_of}
-use Rattle.bs_workers.specs.inner.Apart.{hands_of}
-use Rattle.bs_workers.proofs.Played.{assembled_acts, queued_first}
+use Rattle.bs_workers.specs.inner.Stays.{event_of}
+use Rattle.bs_workers.proofs.Ended.{run_made}
+use Rattle.bs_workers.proofs.PlayedStays.{are_put, whole_acts}
 use Rattle.bs_workers.proofs.apart.put_together.Goals as goal
 
-pub assemble-requires : goal.assemble-requires
-assemble-requires g c =
-    let acts = c.args.acts.now in
-    let cores = c.args.shared.cores.items in
-    let apart = c.if-not-ran_apart.ensures (hands_of acts) (queued_first acts c.args.places.now cores c.requires.have c.requires.played) refl in
-    let queued = c.requires.queued in
-    let ran : RanInOrder g.row.CAP c.args.shared.workers c.args.shared.rows c.args.order.items cores
-    = record { hands = hands_of acts; ordered = queued.ordered; within = queued.within; apart = apart } in
-    (omega arith, (omega arith, (c.requires.workers, (c.requires.hosted, (c.requires.rest, ran)))))
+pub assemble_stays-requires : goal.assemble_stays-requires
+assemble_stays-requires g c =
+    let rest = c.args.rest in
+    let many : length c.args.played.items ≡ length c.args.stays.rows.items = search rules in
+    let put =
+    are_put g.row.CAP rest.blocks rest.workers rest.rows c.args.acts.now c.args.stays c.args.played.items c.requires.acceptable c.requires.listed many c.requires.played in
+    let held : AreHeld g.row.CAP rest.blocks rest.workers rest.rows c.args.played.items c.args.stays.order.items
+    = record { acts = map event_of c.args.acts.now; played = put.played; were = put.were } in
+    let blocks = c.have_all.ensures c.if-not-have_all.false in
+    (omega arith, omega arith, omega arith, c.requires.workers, c.requires.hosted, blocks, held)
 
-pub returns-clause-made : goal.returns-clause-made
-returns-clause-made g c =
+pub returns-clause-run : goal.returns-clause-run
+returns-clause-run g c =
+    λ old rows blocks.
+    let rest = c.args.rest in
     let acts = c.args.acts.now in
-    let shared = c.args.shared in
-    let cores = shared.cores.items in
-    let apart = c.if-not-ran_apart.ensures (hands_of acts) (queued_first acts c.args.places.now cores c.requires.have c.requires.played) refl in
-    let is = c.in_ok-assemble.ensures (hands_of acts) c.requires.queued.ordered apart in
-    let whole = assembly_law g.row.CAP shared.blocks shared.workers shared.rows (hands_of acts) cores c.requires.hosted c.requires.queued.within apart in
-    record {
-      rows = ap (λ (core : CoreView). core.games.rows) is;
-      size_is = ap (λ (core : CoreView). size core.games.storage.pool) is ∙ whole.blocks_same;
-      works = ap (λ (core : CoreView). core.games.failed) is;
-      acted = ap (λ (core : CoreView). acts_of core.journal) is ∙ assembled_acts acts cores c.requires.queued.acted;
-    }
+    let many : length c.args.played.items ≡ length c.args.stays.rows.items = search rules in
+    let put =
+    are_put g.row.CAP rest.blocks rest.workers rest.rows acts c.args.stays c.args.played.items c.requires.acceptable c.requires.listed many c.requires.played in
+    let is = c.in_ok-core.ensures (map event_of acts) put.played put.were in
+    let same : size c.in_ok-core.core.games.storage.pool ≡ rest.blocks = search rules in
+    run_made g.row.CAP acts old c.in_ok-core.core c.keeps_apart.ensures
+    (ap (λ (core : CoreView). acts_of core.journal) is ∙ whole_acts put.played acts)
+    (ap (λ (core : CoreView). core.games.rows) is ∙ rows) (same ∙ blocks) (ap (λ (core : CoreView). core.games.failed) is) (sym c.if-not-is_quiet.ensures)

@@ -1,0 +1,395 @@
+//! The threads of a run. First they play the stays that leave, each thread with blocks of its own;
+//! then the others, whose blocks fit the pool together. What no thread has played, the caller plays.
+ghost use Rattle.std.specs.Prelude.{◌≡◌, ◌<◌, ◌++◌, ◌∷◌, [], All, None, Some, IfErr, IfOk, OnOk, length, slice_set};
+ghost use Rattle.bs_workers.specs.inner.Stays.{ArePlayedStays, IsPlayedStay};
+ghost use Rattle.bs_workers.specs.inner.Stops.{IsStopCause};
+ghost use Rattle.bs_workers.specs.declared.stop.Stop.TheVariants as reason;
+
+use crate::act::only_mover;
+use crate::gate::Gate;
+use crate::player::{Lone, Player, needed};
+use crate::stop::Stop;
+use crate::turns::{Lot, Turns};
+use bs_block::Block;
+use bs_sched::LoneStay;
+use std::alloc::{AllocError, Global};
+use std::thread::{Threads, map_indices};
+
+/// What a thread has played, and the blocks that it has left.
+#[derive(Drop)]
+struct Ran<const CAP: usize> {
+    stays: Vec<Lone<CAP>>,
+    blocks: Vec<Block<CAP>>,
+}
+
+fn put_lone<const CAP: usize>(ran: &mut Vec<Lone<CAP>>, lone: Lone<CAP>) -> Result<(), AllocError>
+    ensures { OnOk result (ran.new.items ≡ ran.old.items ++ lone.entry ∷ []) }
+{
+    Ok(ran.push(lone)?)
+}
+
+fn append_lones<const CAP: usize>(
+    all: &mut Vec<Lone<CAP>>,
+    mut ran: Vec<Lone<CAP>>,
+) -> Result<(), AllocError>
+    ensures { OnOk result (all.new.items ≡ all.old.items ++ ran.entry.items) }
+{
+    all.append(&mut ran)
+}
+
+/// Moves that many blocks to a new list, or all if there are fewer.
+fn draw<const CAP: usize>(
+    alloc: Global,
+    free: &mut Vec<Block<CAP>>,
+    many: usize,
+) -> Result<Vec<Block<CAP>>, AllocError> {
+    let mut drawn = Vec::with_capacity(alloc, many.min(free.len()))?;
+    for _ in 0..many.min(free.len()) {
+        if let Some(block) = free.pop() {
+            drawn.push(block)?;
+        }
+    }
+    Ok(drawn)
+}
+
+/// Adds the blocks that no thread has taken.
+fn take_back<const CAP: usize>(
+    free: &mut Vec<Block<CAP>>,
+    lots: Vec<Lot<CAP>>,
+) -> Result<(), AllocError> {
+    for lot in lots {
+        if let Some(mut blocks) = lot.into_blocks() {
+            free.append(&mut blocks)?;
+        }
+    }
+    Ok(())
+}
+
+/// The stay of each row, once it was played, and the blocks that no stay has.
+#[derive(Drop)]
+pub(crate) struct Table<const CAP: usize> {
+    pub(crate) slots: Vec<Option<LoneStay<CAP>>>,
+    pub(crate) free: Vec<Block<CAP>>,
+}
+
+impl<const CAP: usize> Table<CAP> {
+    /// A table in which no stay was played.
+    fn new(alloc: Global, rows: usize, free: Vec<Block<CAP>>) -> Result<Self, AllocError>
+        ensures { IfOk result (λ table. All (λ slot. slot ≡ None) table.slots.items) }
+    {
+        let mut slots = Vec::with_capacity(alloc, rows)?;
+        for _ in 0..rows {
+            slots.push(None)?;
+        }
+        Ok(Table { slots, free })
+    }
+
+    /// Keeps a stay that was played. `Failed` if there is no such row.
+    fn put(&mut self, lone: Lone<CAP>) -> Result<(), Stop>
+        ensures row { OnOk result (lone.entry.row < length self.old.slots.items) }
+        ensures kept { OnOk result (self.new.slots.items ≡ slice_set self.old.slots.items lone.entry.row (Some lone.entry.stay)) }
+        ensures cause { IfErr result (λ stop. stop ≡ reason.Failed) }
+    {
+        let Lone { row, stay } = lone;
+        if row >= self.slots.len() {
+            return Err(Stop::Failed);
+        }
+        self.slots[row] = Some(stay);
+        Ok(())
+    }
+
+    /// Whether the stay of that row was played.
+    fn has(&self, row: usize) -> bool {
+        row < self.slots.len() && self.slots[row].is_some()
+    }
+}
+
+/// The rows of the stays that leave, or of those that do not.
+fn rows_of(alloc: Global, leaves: &[bool], leaving: bool) -> Result<Vec<usize>, AllocError> {
+    let mut rows = Vec::with_capacity(alloc, leaves.len())?;
+    for row in 0..leaves.len() {
+        if leaves[row] == leaving {
+            rows.push(row)?;
+        }
+    }
+    Ok(rows)
+}
+
+/// The rows without that one.
+fn without(alloc: Global, rows: &[usize], left: Option<usize>) -> Result<Vec<usize>, AllocError> {
+    let mut others = Vec::with_capacity(alloc, rows.len())?;
+    for row in rows {
+        if left != Some(*row) {
+            others.push(*row)?;
+        }
+    }
+    Ok(others)
+}
+
+impl<R: Threads + Sync, G: Gate> Player<'_, R, G> {
+    /// Adds a stay that was played.
+    fn add<const CAP: usize>(
+        &self,
+        ran: &mut Vec<Lone<CAP>>,
+        lone: Lone<CAP>,
+    ) -> Result<(), AllocError>
+        requires before { All (λ lone. IsPlayedStay CAP self.now.workers self.now.acts.now self.now.stays.now lone.row lone.stay) ran.old.items }
+        requires played { IsPlayedStay CAP self.now.workers self.now.acts.now self.now.stays.now lone.row lone.stay }
+        ensures { OnOk result (All (λ lone. IsPlayedStay CAP self.now.workers self.now.acts.now self.now.stays.now lone.row lone.stay) ran.new.items) }
+    {
+        Ok(put_lone(ran, lone)?)
+    }
+
+    /// Plays the stay of that row, if the list has enough blocks.
+    fn run_turn<const CAP: usize>(
+        &self,
+        thread: usize,
+        row: usize,
+        ran: &mut Vec<Lone<CAP>>,
+        blocks: &mut Vec<Block<CAP>>,
+    ) -> Result<(), Stop>
+        requires { All (λ lone. IsPlayedStay CAP self.now.workers self.now.acts.now self.now.stays.now lone.row lone.stay) ran.old.items }
+        ensures played { OnOk result (All (λ lone. IsPlayedStay CAP self.now.workers self.now.acts.now self.now.stays.now lone.row lone.stay) ran.new.items) }
+        ensures cause { IfErr result (IsStopCause (G.may_refuse self.now.gate.now)) }
+    {
+        if !self.has_room::<CAP>(row, blocks.len()) {
+            return Ok(());
+        }
+        let lone = self.play(thread, 1, row, blocks)?;
+        self.add(ran, lone)?;
+        Ok(())
+    }
+
+    /// Plays stays as the thread of that number until none is left. Leaves those to the caller for
+    /// which it has too few blocks.
+    fn run_rows<const CAP: usize>(
+        &self,
+        turns: &Turns<'_, CAP>,
+        thread: usize,
+    ) -> Result<Ran<CAP>, Stop>
+        ensures played { IfOk result (λ ran. All (λ lone. IsPlayedStay CAP self.now.workers self.now.acts.now self.now.stays.now lone.row lone.stay) ran.stays.items) }
+        ensures cause { IfErr result (IsStopCause (G.may_refuse self.now.gate.now)) }
+    {
+        let mut stays = Vec::new(self.alloc);
+        let mut blocks = turns.take_share(thread).unwrap_or(Vec::new(self.alloc));
+        for _ in 0..turns.rows.len() {
+            let Some(place) = turns.next() else {
+                break;
+            };
+            if let Some(mut lot) = turns.take_lot(place) {
+                blocks.append(&mut lot)?;
+            }
+            self.run_turn(thread, turns.rows[place], &mut stays, &mut blocks)?;
+        }
+        Ok(Ran { stays, blocks })
+    }
+
+    /// The stays and the blocks of all threads. If several stopped, one reason is kept.
+    #[tactic(auto, using(crate::proofs::Stops::kept_cause))]
+    fn join_rows<const CAP: usize>(
+        &self,
+        mut rans: Vec<Result<Ran<CAP>, Stop>>,
+        free: &mut Vec<Block<CAP>>,
+    ) -> Result<Vec<Lone<CAP>>, Stop>
+        requires { All (λ some. IfOk some (λ ran. All (λ lone. IsPlayedStay CAP self.now.workers self.now.acts.now self.now.stays.now lone.row lone.stay) ran.stays.items)
+            × IfErr some (IsStopCause (G.may_refuse self.now.gate.now))) rans.items }
+        ensures played { IfOk result (λ ran. All (λ lone. IsPlayedStay CAP self.now.workers self.now.acts.now self.now.stays.now lone.row lone.stay) ran.items) }
+        ensures cause { IfErr result (IsStopCause (G.may_refuse self.now.gate.now)) }
+    {
+        let mut all = Vec::new(self.alloc);
+        let mut stopped = None;
+        for _ in 0..rans.len() {
+            match rans.pop() {
+                Some(Ok(ran)) => {
+                    let Ran { stays, mut blocks } = ran;
+                    append_lones(&mut all, stays)?;
+                    free.append(&mut blocks)?;
+                }
+                Some(Err(stop)) => stopped = Some(stop.after(stopped)),
+                None => {}
+            }
+        }
+        match stopped {
+            Some(stop) => Err(stop),
+            None => Ok(all),
+        }
+    }
+
+    /// Has that many threads play stays.
+    fn run_all<const CAP: usize>(
+        &self,
+        turns: &Turns<'_, CAP>,
+        threads: usize,
+        free: &mut Vec<Block<CAP>>,
+    ) -> Result<Vec<Lone<CAP>>, Stop>
+        ensures played { IfOk result (λ ran. All (λ lone. IsPlayedStay CAP self.now.workers self.now.acts.now self.now.stays.now lone.row lone.stay) ran.items) }
+        ensures cause { IfErr result (IsStopCause (G.may_refuse self.now.gate.now)) }
+    {
+        let rans = map_indices(
+            self.rt,
+            self.alloc,
+            threads,
+            &|thread: usize| -> Result<Ran<CAP>, Stop>
+                ensures { IfOk result (λ ran. All (λ lone. IsPlayedStay CAP self.entry.now.workers self.entry.now.acts.now self.entry.now.stays.now lone.row lone.stay) ran.stays.items)
+                    × IfErr result (IsStopCause (G.may_refuse self.entry.now.gate.now)) }
+            { self.run_rows(turns, thread) },
+        )?;
+        self.join_rows(rans, free)
+    }
+
+    /// A list of blocks for each thread, each with as many.
+    fn shares_of<const CAP: usize>(
+        &self,
+        threads: usize,
+        free: &mut Vec<Block<CAP>>,
+    ) -> Result<Vec<Lot<CAP>>, AllocError> {
+        let share = if threads == 0 {
+            0
+        } else {
+            free.len() / threads
+        };
+        let mut lots = Vec::with_capacity(self.alloc, threads)?;
+        for _ in 0..threads {
+            lots.push(Lot::new(draw(self.alloc, free, share)?))?;
+        }
+        Ok(lots)
+    }
+
+    /// A list of blocks for each of the stays, with those that it reserves.
+    fn lots_of<const CAP: usize>(
+        &self,
+        rows: &[usize],
+        free: &mut Vec<Block<CAP>>,
+    ) -> Result<Vec<Lot<CAP>>, AllocError> {
+        let mut lots = Vec::with_capacity(self.alloc, rows.len())?;
+        for row in rows {
+            let many = match self.stays.rows.get(*row) {
+                Some(row) => needed::<CAP>(row.get()).unwrap_or(0),
+                None => 0,
+            };
+            lots.push(Lot::new(draw(self.alloc, free, many)?))?;
+        }
+        Ok(lots)
+    }
+
+    /// Keeps stays that were played.
+    fn keep<const CAP: usize>(
+        &self,
+        mut ran: Vec<Lone<CAP>>,
+        table: &mut Table<CAP>,
+    ) -> Result<(), Stop>
+        requires ran { All (λ lone. IsPlayedStay CAP self.now.workers self.now.acts.now self.now.stays.now lone.row lone.stay) ran.items }
+        requires before { ArePlayedStays CAP self.now.workers self.now.acts.now self.now.stays.now table.old.slots.items }
+        ensures played { OnOk result (ArePlayedStays CAP self.now.workers self.now.acts.now self.now.stays.now table.new.slots.items) }
+        ensures cause { IfErr result (IsStopCause (G.may_refuse self.now.gate.now)) }
+    {
+        for _ in 0..ran.len() {
+            if let Some(lone) = ran.pop() {
+                table.put(lone)?;
+            }
+        }
+        Ok(())
+    }
+
+    /// Has at most that many threads play the stays of these rows, which all leave or all stay open.
+    fn play_apart<const CAP: usize>(
+        &self,
+        threads: usize,
+        rows: &[usize],
+        leaving: bool,
+        table: &mut Table<CAP>,
+    ) -> Result<(), Stop>
+        requires { ArePlayedStays CAP self.now.workers self.now.acts.now self.now.stays.now table.old.slots.items }
+        ensures played { OnOk result (ArePlayedStays CAP self.now.workers self.now.acts.now self.now.stays.now table.new.slots.items) }
+        ensures cause { IfErr result (IsStopCause (G.may_refuse self.now.gate.now)) }
+    {
+        let threads = threads.min(rows.len());
+        if threads <= 1 {
+            return Ok(());
+        }
+        let turns = if leaving {
+            let shares = self.shares_of(threads, &mut table.free)?;
+            Turns::new(rows, shares, Vec::new(self.alloc))
+        } else {
+            let lots = self.lots_of(rows, &mut table.free)?;
+            Turns::new(rows, Vec::new(self.alloc), lots)
+        };
+        let ran = self.run_all(&turns, threads, &mut table.free)?;
+        let Turns { shares, lots, .. } = turns;
+        take_back(&mut table.free, shares)?;
+        take_back(&mut table.free, lots)?;
+        self.keep(ran, table)?;
+        Ok(())
+    }
+
+    /// Plays the stay of that row on the calling thread, if no thread has played it. `threads`
+    /// threads share its moves.
+    fn play_row<const CAP: usize>(
+        &self,
+        threads: usize,
+        row: usize,
+        table: &mut Table<CAP>,
+    ) -> Result<(), Stop>
+        requires { ArePlayedStays CAP self.now.workers self.now.acts.now self.now.stays.now table.old.slots.items }
+        ensures played { OnOk result (ArePlayedStays CAP self.now.workers self.now.acts.now self.now.stays.now table.new.slots.items) }
+        ensures cause { IfErr result (IsStopCause (G.may_refuse self.now.gate.now)) }
+    {
+        if table.has(row) {
+            return Ok(());
+        }
+        let lone = self.play(0, threads, row, &mut table.free)?;
+        table.put(lone)?;
+        Ok(())
+    }
+
+    /// Plays the stays of these rows that no thread has played.
+    fn play_left<const CAP: usize>(
+        &self,
+        threads: usize,
+        rows: &[usize],
+        table: &mut Table<CAP>,
+    ) -> Result<(), Stop>
+        requires { ArePlayedStays CAP self.now.workers self.now.acts.now self.now.stays.now table.old.slots.items }
+        ensures played { OnOk result (ArePlayedStays CAP self.now.workers self.now.acts.now self.now.stays.now table.new.slots.items) }
+        ensures cause { IfErr result (IsStopCause (G.may_refuse self.now.gate.now)) }
+    {
+        for row in rows {
+            self.play_row(threads, *row, table)?;
+        }
+        Ok(())
+    }
+
+    /// Plays the stays that leave, or those that do not.
+    fn play_those<const CAP: usize>(
+        &self,
+        threads: usize,
+        leaving: bool,
+        table: &mut Table<CAP>,
+    ) -> Result<(), Stop>
+        requires { ArePlayedStays CAP self.now.workers self.now.acts.now self.now.stays.now table.old.slots.items }
+        ensures played { OnOk result (ArePlayedStays CAP self.now.workers self.now.acts.now self.now.stays.now table.new.slots.items) }
+        ensures cause { IfErr result (IsStopCause (G.may_refuse self.now.gate.now)) }
+    {
+        let rows = rows_of(self.alloc, self.stays.leaves.as_slice(), leaving)?;
+        let mover = only_mover(self.acts, self.stays.rows.len());
+        let others = without(self.alloc, rows.as_slice(), mover)?;
+        self.play_apart(threads, others.as_slice(), leaving, table)?;
+        self.play_left(threads, rows.as_slice(), table)?;
+        Ok(())
+    }
+
+    /// Plays all stays on at most that many threads, with these blocks.
+    pub(crate) fn play_all<const CAP: usize>(
+        &self,
+        threads: usize,
+        free: Vec<Block<CAP>>,
+    ) -> Result<Table<CAP>, Stop>
+        ensures played { IfOk result (λ table. ArePlayedStays CAP self.now.workers self.now.acts.now self.now.stays.now table.slots.items) }
+        ensures cause { IfErr result (IsStopCause (G.may_refuse self.now.gate.now)) }
+    {
+        let mut table = Table::new(self.alloc, self.stays.rows.len(), free)?;
+        self.play_those(threads, true, &mut table)?;
+        self.play_those(threads, false, &mut table)?;
+        Ok(table)
+    }
+}
