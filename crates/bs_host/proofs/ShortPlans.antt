@@ -155,9 +155,6 @@ line_costs version text = elim (cases_Bool (nat_lt MAX_LINE (length text))) [
   ]
 ]
 
-pub admitted_costs : (version : Version) (text : List ℕ) (row : GameRow) → line_of version text ≡ line.Admit row → row_cost row ≤ length text
-admitted_costs version text row is = subst (CostsLine (length text)) is (line_costs version text)
-
 -- plans: the text around the rows, one byte less than around one row
 
 abbrev pub plan_cost : Version → ℕ

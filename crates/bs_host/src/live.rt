@@ -1,6 +1,6 @@
 //! Serves a command file while it is read: answers each line as soon as it is complete. The output
 //! is a function of the lines alone: their answers, in order.
-ghost use Rattle.std.specs.Prelude.{◌≡◌, ◌≢◌, ◌↔◌, ◌==◌, ◌+◌, ◌<◌, ◌≤◌, None, IsTrue, ℕ, true, false, List, [], ◌++◌, length, Option, IfOk, IfErr, IfSome, OnOk};
+ghost use Rattle.std.specs.Prelude.{◌≡◌, ◌≢◌, ◌↔◌, ◌==◌, ◌+◌, ◌<◌, ◌≤◌, None, IsTrue, ℕ, true, false, List, [], ◌++◌, length, Option, option_copied, IfOk, IfErr, IfSome, OnOk};
 ghost use Rattle.std.specs.Io.KnownBytes.{Appends, Consumes, IsAtEnd};
 ghost use Rattle.std.specs.List.{position};
 ghost use Rattle.bs_board.specs.declared.plans.version.Version.{Version};
@@ -9,13 +9,13 @@ ghost use Rattle.bs_host.specs.declared.lines.TheConstants.{LINE_FEED};
 ghost use Rattle.bs_json.specs.declared.limits.TheConstants.{MAX_LINE};
 ghost use Rattle.bs_host.specs.File.{pieces_of};
 ghost use Rattle.bs_host.specs.Live.{LiveLaw, PrefixLaw, TranscriptLaw, live_lines_of, live_of};
-ghost use Rattle.bs_host.specs.inner.Live.{HasAnswered, IsSameText, IsServing};
+ghost use Rattle.bs_host.specs.inner.Live.{HasAnswered, IsSameText, IsServing, lines_behind};
 ghost use Rattle.bs_host.specs.LiveFaults.{HasLiveCause, IsLiveFault, LeavesLive, live_refusal_of};
 ghost use Rattle.bs_host.specs.inner.LiveFaults.{IsReadFault, LeavesLines, LeavesText};
 
 use crate::calls::ReadCalls;
+use crate::fault::Fault;
 use crate::lines::{first_feed, split_first, split_some};
-use crate::live_fault::LiveFault;
 use crate::live_host::LiveHost;
 use bs_json::{MAX_LINE, TextBuffer};
 use bs_transcript::{Unrecorded, WriteCalls, write_all_by};
@@ -34,7 +34,7 @@ fn write_out<W: Write, C: WriteCalls<W>>(
     text: &[u8],
     written: &mut usize,
     output: &mut W,
-) -> Result<(), LiveFault>
+) -> Result<(), Fault>
     ensures text { OnOk result (Appends (W.contents output.old) (W.contents output.new) text.now) }
     ensures count { OnOk result (written.new ≡ written.old + length text.now) }
     ensures left { IfErr result (LeavesText text.now written.old (W.contents output.old) (W.contents output.new)) }
@@ -42,10 +42,10 @@ fn write_out<W: Write, C: WriteCalls<W>>(
 {
     let after = written.checked_add(text.len()).ok_or(AllocError)?;
     if let Err(fault) = write_all_by::<W, C>(text, output) {
-        return Err(LiveFault::Write(*written + fault.written));
+        return Err(Fault::Write(*written + fault.written));
     }
     let Ok(()) = C::flush(output) else {
-        return Err(LiveFault::Flush);
+        return Err(Fault::Flush);
     };
     *written = after;
     Ok(())
@@ -69,7 +69,7 @@ fn answer_some<W: Write, C: WriteCalls<W>>(
     host: &mut LiveHost,
     flow: &mut Flow,
     output: &mut W,
-) -> Result<bool, LiveFault>
+) -> Result<bool, Fault>
     ensures serving { (blocks : ℕ) (version : Version) (plan : List GameRow) (after : List ℕ) (first : Option (List ℕ))
         → IsServing blocks version plan after flow.old.pending.items first (W.contents output.old) flow.old.written host.old
         → OnOk result (IsServing blocks version plan after flow.new.pending.items first (W.contents output.new) flow.new.written host.new) }
@@ -99,7 +99,7 @@ fn answer_ready<W: Write, C: WriteCalls<W>>(
     host: &mut LiveHost,
     flow: &mut Flow,
     output: &mut W,
-) -> Result<(), LiveFault>
+) -> Result<(), Fault>
     ensures serving { (blocks : ℕ) (version : Version) (plan : List GameRow) (after : List ℕ) (first : Option (List ℕ))
         → IsServing blocks version plan after flow.old.pending.items first (W.contents output.old) flow.old.written host.old
         → OnOk result (IsServing blocks version plan after flow.new.pending.items first (W.contents output.new) flow.new.written host.new) }
@@ -142,7 +142,7 @@ fn hold_line(pending: &mut Vec<u8>)
 fn read_more<R: Read, C: ReadCalls<R>>(
     input: &mut R,
     pending: &mut Vec<u8>,
-) -> Result<bool, LiveFault>
+) -> Result<bool, Fault>
     requires answered { position (λ byte. byte == LINE_FEED) pending.old.items ≡ None }
     requires held { length pending.old.items ≤ MAX_LINE + 1 }
     ensures bytes { OnOk result
@@ -154,7 +154,7 @@ fn read_more<R: Read, C: ReadCalls<R>>(
 {
     let mut block = [0u8; BLOCK];
     let Ok(count) = C::read(input, &mut block) else {
-        return Err(LiveFault::Device);
+        return Err(Fault::Device);
     };
     pending.extend_from_slice(&block[..count])?;
     Ok(count > 0)
@@ -163,7 +163,7 @@ fn read_more<R: Read, C: ReadCalls<R>>(
 /// Reads until the first line is complete or longer than 65,536 bytes, or until the end of the
 /// input.
 #[tactic(auto, using(crate::proofs::LiveBytes::consumes_none, crate::proofs::LiveBytes::reads_more))]
-fn read_first<R: Read, C: ReadCalls<R>>(alloc: Global, input: &mut R) -> Result<Vec<u8>, LiveFault>
+fn read_first<R: Read, C: ReadCalls<R>>(alloc: Global, input: &mut R) -> Result<Vec<u8>, Fault>
     ensures bytes { IfOk result (λ bytes. Consumes (R.remaining input.old) (R.remaining input.new) bytes.items) }
     ensures end { IfOk result (λ bytes. position (λ byte. byte == LINE_FEED) bytes.items ≡ None → length bytes.items ≤ MAX_LINE → IsAtEnd (R.remaining input.new)) }
     ensures fault { IfErr result IsReadFault }
@@ -185,7 +185,7 @@ fn end_live<W: Write, C: WriteCalls<W>>(
     host: &mut LiveHost,
     flow: &mut Flow,
     output: &mut W,
-) -> Result<(), LiveFault>
+) -> Result<(), Fault>
     ensures written { (blocks : ℕ) (version : Version) (plan : List GameRow) (after : List ℕ) (first : Option (List ℕ))
         → IsServing blocks version plan after flow.old.pending.items first (W.contents output.old) flow.old.written host.old
         → OnOk result (Appends first (W.contents output.new) (live_lines_of blocks version plan (pieces_of after))) }
@@ -208,7 +208,7 @@ fn serve_lines<R: Read, W: Write, C: ReadCalls<R> + WriteCalls<W>>(
     rest: &[u8],
     input: &mut R,
     output: &mut W,
-) -> Result<(), LiveFault>
+) -> Result<(), Fault>
     ensures written { (blocks : ℕ) (version : Version) (plan : List GameRow) → HasAnswered blocks version plan [] host.old
         → OnOk result (IfSome (R.remaining input.old) (λ left. Appends (W.contents output.old) (W.contents output.new) (live_lines_of blocks version plan (pieces_of (rest.now ++ left))))) }
     ensures left { IfErr result (λ fault. (blocks : ℕ) (version : Version) (plan : List GameRow) → HasAnswered blocks version plan [] host.old
@@ -228,7 +228,7 @@ fn serve_lines<R: Read, W: Write, C: ReadCalls<R> + WriteCalls<W>>(
             return Ok(());
         }
     }
-    Err(LiveFault::Memory)
+    Err(Fault::Memory)
 }
 
 /// Writes the final lines of the stays of a file without lines after its plan.
@@ -236,7 +236,7 @@ fn end_plan<W: Write, C: WriteCalls<W>>(
     alloc: Global,
     host: &LiveHost,
     output: &mut W,
-) -> Result<(), LiveFault>
+) -> Result<(), Fault>
     ensures written { (blocks : ℕ) (version : Version) (plan : List GameRow) → HasAnswered blocks version plan [] host.now
         → OnOk result (Appends (W.contents output.old) (W.contents output.new) (live_lines_of blocks version plan [])) }
     ensures left { IfErr result (λ fault. (blocks : ℕ) (version : Version) (plan : List GameRow) → HasAnswered blocks version plan [] host.now
@@ -250,6 +250,28 @@ fn end_plan<W: Write, C: WriteCalls<W>>(
     Ok(())
 }
 
+/// Answers the lines after the plan, of which the bytes `rest` were read already. If the plan's line
+/// is not complete, there are none.
+fn serve_rest<R: Read, W: Write, C: ReadCalls<R> + WriteCalls<W>>(
+    alloc: Global,
+    host: &mut LiveHost,
+    rest: Option<&[u8]>,
+    input: &mut R,
+    output: &mut W,
+) -> Result<(), Fault>
+    ensures written { (blocks : ℕ) (version : Version) (plan : List GameRow) → HasAnswered blocks version plan [] host.old
+        → OnOk result (IfSome (R.remaining input.old) (λ left. Appends (W.contents output.old) (W.contents output.new) (live_lines_of blocks version plan (lines_behind (option_copied rest) left)))) }
+    ensures left { IfErr result (λ fault. (blocks : ℕ) (version : Version) (plan : List GameRow) → HasAnswered blocks version plan [] host.old
+        → IfSome (R.remaining input.old) (λ left. LeavesLines blocks version plan (lines_behind (option_copied rest) left) (W.contents output.old) (W.contents output.new) fault)) }
+    ensures failed { IfErr result (HasLiveCause (C.ReadCalls.has_failed input.new) (C.WriteCalls.has_failed output.new)) }
+{
+    match rest {
+        Some(rest) => serve_lines::<R, W, C>(alloc, host, rest, input, output)?,
+        None => end_plan::<W, C>(alloc, host, output)?,
+    }
+    Ok(())
+}
+
 /// Like `serve_live`, by the calls `C`: a fault of the reader or of the writer is a call that
 /// failed.
 pub fn serve_live_by<R: Read, W: Write, C: ReadCalls<R> + WriteCalls<W>>(
@@ -257,7 +279,7 @@ pub fn serve_live_by<R: Read, W: Write, C: ReadCalls<R> + WriteCalls<W>>(
     input: &mut R,
     blocks: usize,
     output: &mut W,
-) -> Result<(), LiveFault>
+) -> Result<(), Fault>
     ensures served { OnOk result (IfSome (R.remaining input.old) (λ file. live_refusal_of blocks file ≡ None)) }
     ensures written { OnOk result (IfSome (R.remaining input.old) (λ file. Appends (W.contents output.old) (W.contents output.new) (live_of blocks file))) }
     ensures fault { IfErr result (λ fault. IfSome (R.remaining input.old) (λ file. IsLiveFault (live_refusal_of blocks file) fault)) }
@@ -266,18 +288,10 @@ pub fn serve_live_by<R: Read, W: Write, C: ReadCalls<R> + WriteCalls<W>>(
     ensures failed { IfErr result (HasLiveCause (C.ReadCalls.has_failed input.new) (C.WriteCalls.has_failed output.new)) }
 {
     let bytes = read_first::<R, C>(alloc, input)?;
-    match split_first(&bytes) {
-        Some((first, rest)) => {
-            let mut host = LiveHost::open(alloc, first, blocks)?;
-            serve_lines::<R, W, C>(alloc, &mut host, rest, input, output)?;
-            Ok(())
-        }
-        None => {
-            let host = LiveHost::open(alloc, &bytes, blocks)?;
-            end_plan::<W, C>(alloc, &host, output)?;
-            Ok(())
-        }
-    }
+    let (first, rest) = split_first(&bytes);
+    let mut host = LiveHost::open(alloc, first, blocks)?;
+    serve_rest::<R, W, C>(alloc, &mut host, rest, input, output)?;
+    Ok(())
 }
 
 /// Serves a command file with `blocks` blocks of memory while it is read. After each read it
@@ -293,7 +307,7 @@ pub fn serve_live<R: Read, W: Write>(
     input: &mut R,
     blocks: usize,
     output: &mut W,
-) -> Result<(), LiveFault>
+) -> Result<(), Fault>
     ensures served { OnOk result (IfSome (R.remaining input.old) (λ file. live_refusal_of blocks file ≡ None)) }
     ensures written { OnOk result (IfSome (R.remaining input.old) (λ file. Appends (W.contents output.old) (W.contents output.new) (live_of blocks file))) }
     ensures fault { IfErr result (λ fault. IfSome (R.remaining input.old) (λ file. IsLiveFault (live_refusal_of blocks file) fault)) }

@@ -1,6 +1,7 @@
 -- What private contracts add to specs/Live.
-use Rattle.std.specs.Prelude.{◌≡◌, ℕ, ◌+◌, ◌≤◌, Ok, List, [], ◌∷◌, ◌++◌, length, map, take, Option}
+use Rattle.std.specs.Prelude.{◌≡◌, ℕ, ◌+◌, ◌≤◌, Ok, List, [], ◌∷◌, ◌++◌, ◌==◌, length, map, take, Option, Some, None}
 use Rattle.std.specs.Io.KnownBytes.{Appends}
+use Rattle.std.specs.List.{position}
 use Rattle.bs_board.specs.declared.plans.plan.Plan.{Plan}
 use Rattle.bs_board.specs.declared.plans.version.Version.{Version}
 use Rattle.bs_board.specs.plans.Plan.{GameRow}
@@ -8,6 +9,7 @@ use Rattle.bs_json.specs.declared.limits.TheConstants.{MAX_LINE}
 use Rattle.bs_json.specs.PlanLine.{plan_line_of}
 use Rattle.bs_registry.specs.Blocks.{blocks_of_all}
 use Rattle.bs_host.specs.declared.limits.TheConstants.{BLOCK_BYTES}
+use Rattle.bs_host.specs.declared.lines.TheConstants.{LINE_FEED}
 use Rattle.bs_host.specs.declared.live_host.LiveHost.{LiveHost}
 use Rattle.bs_host.specs.File.{pieces_of}
 use Rattle.bs_host.specs.inner.LiveHost.{host_behind, host_of}
@@ -29,6 +31,16 @@ IsSameText old new = (more : List ℕ) → map held_of (pieces_of (old ++ more))
 -- A text is split at its first line feed, or at any one; this holds whatever text follows it.
 abbrev pub IsCutFirst : List ℕ → List ℕ → List ℕ → Type 0
 IsCutFirst text first rest = (more : List ℕ) → pieces_of (text ++ more) ≡ first ∷ pieces_of (rest ++ more)
+
+-- The first line of some bytes, and the bytes after it, if that line is complete.
+abbrev pub IsBegun : List ℕ → List ℕ → Option (List ℕ) → Type 0
+IsBegun bytes first (Some rest) = IsCutFirst bytes first rest
+IsBegun bytes first None = (first ≡ bytes) × (position (λ byte. byte == LINE_FEED) bytes ≡ None)
+
+-- the lines after it, with the bytes that are read later
+abbrev pub lines_behind : Option (List ℕ) → List ℕ → List (List ℕ)
+lines_behind (Some rest) later = pieces_of (rest ++ later)
+lines_behind None later = []
 
 abbrev pub IsCutLast : List ℕ → List ℕ → List ℕ → Type 0
 IsCutLast text front back = (more : List ℕ) → pieces_of (text ++ more) ≡ pieces_of front ++ pieces_of (back ++ more)

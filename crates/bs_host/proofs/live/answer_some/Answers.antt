@@ -1,7 +1,7 @@
 use Rattle.std.proofs.Common.{◌≡◌, ◌+◌, [], ◌++◌, List, ℕ, Option, Err, length, refl, sym, subst, ◌∙◌, rules, inl}
 use Rattle.bs_board.specs.declared.plans.version.Version.{Version}
 use Rattle.bs_board.specs.plans.Plan.{GameRow}
-use Rattle.bs_host.specs.declared.live_fault.LiveFault.TheVariants as live
+use Rattle.bs_host.specs.declared.fault.Fault.TheVariants.{Memory}
 use Rattle.bs_host.specs.File.{pieces_of}
 use Rattle.bs_host.specs.Live.{answers_from}
 use Rattle.bs_host.specs.inner.Live.{IsCutLast, IsServing}
@@ -40,7 +40,7 @@ returns-in_err-extend_from_slice-clause-left g c =
     let count = c.args.flow.now.written in
     let now = g.W.Write.contents c.args.output.now in
     let left : (blocks : ℕ) (version : Version) (plan : List GameRow) (after : List ℕ) (first : Option (List ℕ))
-    → IsServing blocks version plan after pending first now count host → (more : List ℕ) → LeavesLines blocks version plan (pieces_of (after ++ more)) first now live.Memory
+    → IsServing blocks version plan after pending first now count host → (more : List ℕ) → LeavesLines blocks version plan (pieces_of (after ++ more)) first now Memory
     = λ blocks version plan after first is more. serving_first blocks version plan after pending more first now count host is in
     search rules
 
@@ -51,7 +51,7 @@ returns-in_err-answer_all-clause-left g c =
     let count = c.args.flow.now.written in
     let now = g.W.Write.contents c.args.output.now in
     let left : (blocks : ℕ) (version : Version) (plan : List GameRow) (after : List ℕ) (first : Option (List ℕ))
-    → IsServing blocks version plan after pending first now count host → (more : List ℕ) → LeavesLines blocks version plan (pieces_of (after ++ more)) first now live.Memory
+    → IsServing blocks version plan after pending first now count host → (more : List ℕ) → LeavesLines blocks version plan (pieces_of (after ++ more)) first now Memory
     = λ blocks version plan after first is more. serving_first blocks version plan after pending more first now count host is in
     search rules
 

@@ -1,7 +1,7 @@
 use Rattle.std.proofs.Common.{◌≡◌, ◌++◌, List, ℕ, Option, [], sym, ap, ◌∙◌, append-nil, rules, inr}
 use Rattle.bs_board.specs.declared.plans.version.Version.{Version}
 use Rattle.bs_board.specs.plans.Plan.{GameRow}
-use Rattle.bs_host.specs.declared.live_fault.LiveFault.TheVariants as live
+use Rattle.bs_host.specs.declared.fault.Fault.TheVariants.{Memory}
 use Rattle.bs_host.specs.File.{pieces_of}
 use Rattle.bs_host.specs.Live.{answers_from, live_lines_of}
 use Rattle.bs_host.specs.inner.Live.{IsServing}
@@ -38,7 +38,7 @@ returns-in_err-answer_all-clause-left g c =
     let pending = c.args.flow.now.pending.items in
     let now = g.W.Write.contents c.args.output.now in
     let left : (blocks : ℕ) (version : Version) (plan : List GameRow) (after : List ℕ) (first : Option (List ℕ))
-    → IsServing blocks version plan after pending first now c.args.flow.now.written host → LeavesLines blocks version plan (pieces_of after) first now live.Memory
+    → IsServing blocks version plan after pending first now c.args.flow.now.written host → LeavesLines blocks version plan (pieces_of after) first now Memory
     = λ blocks version plan after first is. serving_last blocks version plan after pending first now c.args.flow.now.written host is in
     search rules
 
@@ -48,7 +48,7 @@ returns-in_err-close-clause-left g c =
     let pending = c.args.flow.now.pending.items in
     let now = g.W.Write.contents c.args.output.now in
     let left : (blocks : ℕ) (version : Version) (plan : List GameRow) (after : List ℕ) (first : Option (List ℕ))
-    → IsServing blocks version plan after pending first now c.args.flow.now.written host → LeavesLines blocks version plan (pieces_of after) first now live.Memory
+    → IsServing blocks version plan after pending first now c.args.flow.now.written host → LeavesLines blocks version plan (pieces_of after) first now Memory
     = λ blocks version plan after first is. serving_last blocks version plan after pending first now c.args.flow.now.written host is in
     search rules
 

@@ -3,7 +3,7 @@ use Rattle.std.specs.Prelude.{IfSome}
 use Rattle.std.specs.Io.KnownBytes.{Appends, IsAtEnd}
 use Rattle.bs_board.specs.declared.plans.version.Version.{Version}
 use Rattle.bs_board.specs.plans.Plan.{GameRow}
-use Rattle.bs_host.specs.declared.live_fault.LiveFault.TheVariants as live
+use Rattle.bs_host.specs.declared.fault.Fault.TheVariants.{Memory}
 use Rattle.bs_host.specs.File.{pieces_of}
 use Rattle.bs_host.specs.LiveFaults.{HasLiveCause}
 use Rattle.bs_host.specs.Live.{live_lines_of}
@@ -160,7 +160,7 @@ returns-clause-left g c =
     let first = g.W.Write.contents c.args.output.now in
     let now = g.W.Write.contents c.loop.output in
     let (bytes, before, serving) = c.loop.invariant blocks version plan is in
-    of_lines blocks version plan (g.R.Read.remaining c.args.input.now) (g.R.Read.remaining c.loop.input) pending bytes first now live.Memory before
+    of_lines blocks version plan (g.R.Read.remaining c.args.input.now) (g.R.Read.remaining c.loop.input) pending bytes first now Memory before
     (λ more.
     serving_first blocks version plan (pending ++ bytes) c.loop.flow.pending.items more first now c.loop.flow.written c.loop.host serving)
 
