@@ -1,6 +1,6 @@
 -- When a live host refuses a file, and what each fault leaves of the output.
 use Rattle.std.proofs.Common.{◌≡◌, ◌≢◌, ℕ, ◌<◌, ◌≤◌, List, [], ◌∷◌, ◌++◌, Option, Some, None, Ok, Err, length, refl, sym, ap, subst, ◌∙◌, arith, append-nil, append_assoc, length-append}
-use Rattle.std.specs.Io.KnownBytes.{Appends, Consumes, IsAtEnd, Keeps}
+use Rattle.std.specs.Io.KnownBytes.{Appends, Consumes, IsAtEnd}
 use Rattle.std.specs.List.{position}
 use Rattle.std.specs.Prelude.{IfSome}
 use Rattle.std.proofs.lemmas.Bool.{cond-true, lt-ltb}
@@ -10,9 +10,8 @@ use Rattle.bs_board.specs.declared.plans.plan.Plan.{Plan}
 use Rattle.bs_board.specs.declared.plans.version.Version.{Version}
 use Rattle.bs_board.specs.plans.Plan.{GameRow}
 use Rattle.bs_json.specs.declared.limits.TheConstants.{MAX_LINE}
-use Rattle.bs_json.specs.declared.plan.PlanFault.{PlanFault}
 use Rattle.bs_json.specs.declared.plan.PlanFault.TheVariants as plan_fault
-use Rattle.bs_json.specs.PlanLine.{IsPlanFault, plan_line_of}
+use Rattle.bs_json.specs.PlanLine.{plan_line_of}
 use Rattle.bs_registry.specs.Blocks.{blocks_of_all}
 use Rattle.bs_host.specs.declared.fault.Fault.{Fault}
 use Rattle.bs_host.specs.declared.fault.Fault.TheVariants.{Device, Plan as OfPlan, Memory, Write, Flush}
@@ -23,7 +22,7 @@ use Rattle.bs_host.specs.Faults.{refusal_of_plan}
 use Rattle.bs_host.specs.File.{first_piece, later_pieces, pieces_of, plan_of, rows_in, rows_of, version_in, version_of}
 use Rattle.bs_host.specs.Live.{live_lines_of, live_of}
 use Rattle.bs_host.specs.inner.Live.{HasOpened, IsBegun, lines_behind}
-use Rattle.bs_host.specs.LiveFaults.{HasFirstAnswersOf, IsLiveFault, LeavesLive, live_refusal_of}
+use Rattle.bs_host.specs.LiveFaults.{IsLiveFault, LeavesLive, live_refusal_of}
 use Rattle.bs_host.specs.inner.LiveFaults.{IsLiveRefusal, LeavesLines}
 use Rattle.bs_host.proofs.HostedCore.{no_refusal}
 use Rattle.bs_host.proofs.CutPieces.{fails_everywhere, is_feed}

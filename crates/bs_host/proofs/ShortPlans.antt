@@ -1,6 +1,6 @@
 -- A row costs at most as much as the line that it was read from, and the plan of one row at most as
 -- much as the plan's line.
-use Rattle.std.proofs.Common.{◌≡◌, ℕ, zero, suc, ◌+◌, ◌≤◌, Bool, true, false, ◌&&◌, nat_lt, nat_le, List, ◌∷◌, ◌++◌, length, All, Option, Some, None, Result, Ok, Err, option_map, codes, decimal, ◌⊎◌, inl, inr, refl, ap, subst, arith, length-append}
+use Rattle.std.proofs.Common.{◌≡◌, ℕ, zero, suc, ◌+◌, ◌≤◌, Bool, true, false, ◌&&◌, nat_lt, nat_le, List, ◌∷◌, ◌++◌, length, All, Option, Some, None, Result, Ok, Err, option_map, codes, decimal, ◌⊎◌, inl, inr, refl, ap, arith, length-append}
 use Rattle.std.proofs.lemmas.Bool.{cases_Bool}
 use Rattle.std.specs.List.{list_all}
 use Rattle.std.specs.Prelude.{is_some, if◌then◌else◌}

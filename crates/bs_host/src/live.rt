@@ -9,7 +9,7 @@ ghost use Rattle.bs_host.specs.declared.lines.TheConstants.{LINE_FEED};
 ghost use Rattle.bs_json.specs.declared.limits.TheConstants.{MAX_LINE};
 ghost use Rattle.bs_host.specs.File.{pieces_of};
 ghost use Rattle.bs_host.specs.Live.{LiveLaw, PrefixLaw, TranscriptLaw, live_lines_of, live_of};
-ghost use Rattle.bs_host.specs.inner.Live.{HasAnswered, IsSameText, IsServing, lines_behind};
+ghost use Rattle.bs_host.specs.inner.Live.{EndsServing, HasAnswered, IsSameText, KeepsServing, StopsAtEnd, StopsServing, lines_behind};
 ghost use Rattle.bs_host.specs.LiveFaults.{HasLiveCause, IsLiveFault, LeavesLive, live_refusal_of};
 ghost use Rattle.bs_host.specs.inner.LiveFaults.{IsReadFault, LeavesLines, LeavesText};
 
@@ -53,31 +53,27 @@ fn write_out<W: Write, C: WriteCalls<W>>(
 
 /// What is between the reader and the writer.
 #[derive(Drop)]
-struct Flow {
+pub(crate) struct Flow {
+    pub(crate) host: LiveHost,
     /// Bytes that were read: the begin of the next line.
-    pending: Vec<u8>,
+    pub(crate) pending: Vec<u8>,
     /// The memory of the answers to the lines of one read.
-    text: TextBuffer,
+    pub(crate) text: TextBuffer,
     /// The number of bytes that the writer took.
-    written: usize,
+    pub(crate) written: usize,
 }
 
 /// Answers the first complete lines of the pending bytes, and writes their answers. The rest stays
 /// pending. Returns false if no line is complete.
 fn answer_some<W: Write, C: WriteCalls<W>>(
     alloc: Global,
-    host: &mut LiveHost,
     flow: &mut Flow,
     output: &mut W,
 ) -> Result<bool, Fault>
-    ensures serving { (blocks : ℕ) (version : Version) (plan : List GameRow) (after : List ℕ) (first : Option (List ℕ))
-        → IsServing blocks version plan after flow.old.pending.items first (W.contents output.old) flow.old.written host.old
-        → OnOk result (IsServing blocks version plan after flow.new.pending.items first (W.contents output.new) flow.new.written host.new) }
+    ensures serving { OnOk result (KeepsServing flow.old (W.contents output.old) flow.new (W.contents output.new)) }
     ensures fewer { IfOk result (λ more. more ≡ true → length flow.new.pending.items < length flow.old.pending.items) }
     ensures ready { IfOk result (λ more. more ≡ false → position (λ byte. byte == LINE_FEED) flow.new.pending.items ≡ None) }
-    ensures left { IfErr result (λ fault. (blocks : ℕ) (version : Version) (plan : List GameRow) (after : List ℕ) (first : Option (List ℕ))
-        → IsServing blocks version plan after flow.old.pending.items first (W.contents output.old) flow.old.written host.old
-        → (more : List ℕ) → LeavesLines blocks version plan (pieces_of (after ++ more)) first (W.contents output.new) fault) }
+    ensures left { IfErr result (StopsServing flow.old (W.contents output.old) (W.contents output.new)) }
     ensures failed { IfErr result (HasLiveCause ⊥ (C.has_failed output.new)) }
 {
     let Some((front, back)) = split_some(&flow.pending, SOME_LINES) else {
@@ -86,7 +82,7 @@ fn answer_some<W: Write, C: WriteCalls<W>>(
     let mut rest = Vec::new(alloc);
     rest.extend_from_slice(back)?;
     flow.text.clear();
-    host.answer_all(alloc, front, &mut flow.text)?;
+    flow.host.answer_all(alloc, front, &mut flow.text)?;
     write_out::<W, C>(flow.text.as_slice(), &mut flow.written, output)?;
     flow.pending = rest;
     Ok(true)
@@ -96,22 +92,17 @@ fn answer_some<W: Write, C: WriteCalls<W>>(
 /// pending.
 fn answer_ready<W: Write, C: WriteCalls<W>>(
     alloc: Global,
-    host: &mut LiveHost,
     flow: &mut Flow,
     output: &mut W,
 ) -> Result<(), Fault>
-    ensures serving { (blocks : ℕ) (version : Version) (plan : List GameRow) (after : List ℕ) (first : Option (List ℕ))
-        → IsServing blocks version plan after flow.old.pending.items first (W.contents output.old) flow.old.written host.old
-        → OnOk result (IsServing blocks version plan after flow.new.pending.items first (W.contents output.new) flow.new.written host.new) }
+    ensures serving { OnOk result (KeepsServing flow.old (W.contents output.old) flow.new (W.contents output.new)) }
     ensures ready { OnOk result (position (λ byte. byte == LINE_FEED) flow.new.pending.items ≡ None) }
-    ensures left { IfErr result (λ fault. (blocks : ℕ) (version : Version) (plan : List GameRow) (after : List ℕ) (first : Option (List ℕ))
-        → IsServing blocks version plan after flow.old.pending.items first (W.contents output.old) flow.old.written host.old
-        → (more : List ℕ) → LeavesLines blocks version plan (pieces_of (after ++ more)) first (W.contents output.new) fault) }
+    ensures left { IfErr result (StopsServing flow.old (W.contents output.old) (W.contents output.new)) }
     ensures failed { IfErr result (HasLiveCause ⊥ (C.has_failed output.new)) }
 {
     let mut more = true;
     'lines: while more {
-        more = answer_some::<W, C>(alloc, host, flow, output)?;
+        more = answer_some::<W, C>(alloc, flow, output)?;
     }
     Ok(())
 }
@@ -139,10 +130,7 @@ fn hold_line(pending: &mut Vec<u8>)
 /// Waits until a byte can be read, reads once, and appends the bytes. Returns false at the end of
 /// the input. Before the read all complete lines are answered, and of one that is not complete at
 /// most 65,537 bytes are held.
-fn read_more<R: Read, C: ReadCalls<R>>(
-    input: &mut R,
-    pending: &mut Vec<u8>,
-) -> Result<bool, Fault>
+fn read_more<R: Read, C: ReadCalls<R>>(input: &mut R, pending: &mut Vec<u8>) -> Result<bool, Fault>
     requires answered { position (λ byte. byte == LINE_FEED) pending.old.items ≡ None }
     requires held { length pending.old.items ≤ MAX_LINE + 1 }
     ensures bytes { OnOk result
@@ -182,21 +170,16 @@ fn read_first<R: Read, C: ReadCalls<R>>(alloc: Global, input: &mut R) -> Result<
 /// the open stays.
 fn end_live<W: Write, C: WriteCalls<W>>(
     alloc: Global,
-    host: &mut LiveHost,
     flow: &mut Flow,
     output: &mut W,
 ) -> Result<(), Fault>
-    ensures written { (blocks : ℕ) (version : Version) (plan : List GameRow) (after : List ℕ) (first : Option (List ℕ))
-        → IsServing blocks version plan after flow.old.pending.items first (W.contents output.old) flow.old.written host.old
-        → OnOk result (Appends first (W.contents output.new) (live_lines_of blocks version plan (pieces_of after))) }
-    ensures left { IfErr result (λ fault. (blocks : ℕ) (version : Version) (plan : List GameRow) (after : List ℕ) (first : Option (List ℕ))
-        → IsServing blocks version plan after flow.old.pending.items first (W.contents output.old) flow.old.written host.old
-        → LeavesLines blocks version plan (pieces_of after) first (W.contents output.new) fault) }
+    ensures written { OnOk result (EndsServing flow.old (W.contents output.old) (W.contents output.new)) }
+    ensures left { IfErr result (StopsAtEnd flow.old (W.contents output.old) (W.contents output.new)) }
     ensures failed { IfErr result (HasLiveCause ⊥ (C.has_failed output.new)) }
 {
     flow.text.clear();
-    host.answer_all(alloc, &flow.pending, &mut flow.text)?;
-    host.close(alloc, &mut flow.text)?;
+    flow.host.answer_all(alloc, &flow.pending, &mut flow.text)?;
+    flow.host.close(alloc, &mut flow.text)?;
     write_out::<W, C>(flow.text.as_slice(), &mut flow.written, output)?;
     Ok(())
 }
@@ -204,27 +187,28 @@ fn end_live<W: Write, C: WriteCalls<W>>(
 /// Answers the lines after the plan as they are read. The bytes `rest` were read already.
 fn serve_lines<R: Read, W: Write, C: ReadCalls<R> + WriteCalls<W>>(
     alloc: Global,
-    host: &mut LiveHost,
+    host: LiveHost,
     rest: &[u8],
     input: &mut R,
     output: &mut W,
 ) -> Result<(), Fault>
-    ensures written { (blocks : ℕ) (version : Version) (plan : List GameRow) → HasAnswered blocks version plan [] host.old
+    ensures written { (blocks : ℕ) (version : Version) (plan : List GameRow) → HasAnswered blocks version plan [] host
         → OnOk result (IfSome (R.remaining input.old) (λ left. Appends (W.contents output.old) (W.contents output.new) (live_lines_of blocks version plan (pieces_of (rest.now ++ left))))) }
-    ensures left { IfErr result (λ fault. (blocks : ℕ) (version : Version) (plan : List GameRow) → HasAnswered blocks version plan [] host.old
+    ensures left { IfErr result (λ fault. (blocks : ℕ) (version : Version) (plan : List GameRow) → HasAnswered blocks version plan [] host
         → IfSome (R.remaining input.old) (λ left. LeavesLines blocks version plan (pieces_of (rest.now ++ left)) (W.contents output.old) (W.contents output.new) fault)) }
     ensures failed { IfErr result (HasLiveCause (C.ReadCalls.has_failed input.new) (C.WriteCalls.has_failed output.new)) }
 {
     let mut flow = Flow {
+        host,
         pending: Vec::from_slice(alloc, rest)?,
         text: TextBuffer::new(alloc),
         written: 0,
     };
     for _ in 0..u64::MAX {
-        answer_ready::<W, C>(alloc, host, &mut flow, output)?;
+        answer_ready::<W, C>(alloc, &mut flow, output)?;
         hold_line(&mut flow.pending);
         if !read_more::<R, C>(input, &mut flow.pending)? {
-            end_live::<W, C>(alloc, host, &mut flow, output)?;
+            end_live::<W, C>(alloc, &mut flow, output)?;
             return Ok(());
         }
     }
@@ -254,20 +238,20 @@ fn end_plan<W: Write, C: WriteCalls<W>>(
 /// is not complete, there are none.
 fn serve_rest<R: Read, W: Write, C: ReadCalls<R> + WriteCalls<W>>(
     alloc: Global,
-    host: &mut LiveHost,
+    host: LiveHost,
     rest: Option<&[u8]>,
     input: &mut R,
     output: &mut W,
 ) -> Result<(), Fault>
-    ensures written { (blocks : ℕ) (version : Version) (plan : List GameRow) → HasAnswered blocks version plan [] host.old
+    ensures written { (blocks : ℕ) (version : Version) (plan : List GameRow) → HasAnswered blocks version plan [] host
         → OnOk result (IfSome (R.remaining input.old) (λ left. Appends (W.contents output.old) (W.contents output.new) (live_lines_of blocks version plan (lines_behind (option_copied rest) left)))) }
-    ensures left { IfErr result (λ fault. (blocks : ℕ) (version : Version) (plan : List GameRow) → HasAnswered blocks version plan [] host.old
+    ensures left { IfErr result (λ fault. (blocks : ℕ) (version : Version) (plan : List GameRow) → HasAnswered blocks version plan [] host
         → IfSome (R.remaining input.old) (λ left. LeavesLines blocks version plan (lines_behind (option_copied rest) left) (W.contents output.old) (W.contents output.new) fault)) }
     ensures failed { IfErr result (HasLiveCause (C.ReadCalls.has_failed input.new) (C.WriteCalls.has_failed output.new)) }
 {
     match rest {
         Some(rest) => serve_lines::<R, W, C>(alloc, host, rest, input, output)?,
-        None => end_plan::<W, C>(alloc, host, output)?,
+        None => end_plan::<W, C>(alloc, &host, output)?,
     }
     Ok(())
 }
@@ -289,8 +273,8 @@ pub fn serve_live_by<R: Read, W: Write, C: ReadCalls<R> + WriteCalls<W>>(
 {
     let bytes = read_first::<R, C>(alloc, input)?;
     let (first, rest) = split_first(&bytes);
-    let mut host = LiveHost::open(alloc, first, blocks)?;
-    serve_rest::<R, W, C>(alloc, &mut host, rest, input, output)?;
+    let host = LiveHost::open(alloc, first, blocks)?;
+    serve_rest::<R, W, C>(alloc, host, rest, input, output)?;
     Ok(())
 }
 

@@ -53,6 +53,7 @@ fn finish<W: Write>(output: &mut Output<W>) -> Result<(), Fault>
 
 /// Writes the transcript of a file, then flushes the output. The core is left to the system, which
 /// frees its memory at once when the program ends; after a fault it is dropped.
+#[tactic(auto, using(crate::proofs::Served::serve_fails))]
 fn serve_bytes<H: Threads + Sync, W: Write>(
     rt: &H,
     alloc: Global,

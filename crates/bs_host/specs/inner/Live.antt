@@ -10,10 +10,13 @@ use Rattle.bs_json.specs.PlanLine.{plan_line_of}
 use Rattle.bs_registry.specs.Blocks.{blocks_of_all}
 use Rattle.bs_host.specs.declared.limits.TheConstants.{BLOCK_BYTES}
 use Rattle.bs_host.specs.declared.lines.TheConstants.{LINE_FEED}
+use Rattle.bs_host.specs.declared.fault.Fault.{Fault}
+use Rattle.bs_host.specs.declared.live.Flow.{Flow}
 use Rattle.bs_host.specs.declared.live_host.LiveHost.{LiveHost}
 use Rattle.bs_host.specs.File.{pieces_of}
 use Rattle.bs_host.specs.inner.LiveHost.{host_behind, host_of}
-use Rattle.bs_host.specs.Live.{answers_from}
+use Rattle.bs_host.specs.inner.LiveFaults.{LeavesLines}
+use Rattle.bs_host.specs.Live.{answers_from, live_lines_of}
 
 -- The host has answered these lines, which follow the plan.
 abbrev pub HasAnswered : ℕ → Version → List GameRow → List (List ℕ) → LiveHost → Type 0
@@ -53,6 +56,35 @@ pub record IsServing (blocks : ℕ) (version : Version) (plan : List GameRow) (a
   pub answered : HasAnswered blocks version plan done host
   pub written : Appends old new (answers_from blocks version plan [] done)
   pub counted : count ≡ length (answers_from blocks version plan [] done)
+
+-- Of a flow, whatever file it serves. `now` is what the writer had, `next` what it has.
+-- it still serves the file
+abbrev pub KeepsServing : Flow → Option (List ℕ) → Flow → Option (List ℕ) → Type 0
+KeepsServing flow now behind next =
+    (blocks : ℕ) (version : Version) (plan : List GameRow) (after : List ℕ) (first : Option (List ℕ))
+    → IsServing blocks version plan after flow.pending.items first now flow.written flow.host
+    → IsServing blocks version plan after behind.pending.items first next behind.written behind.host
+
+-- it stopped by that fault, whatever would have been read
+abbrev pub StopsServing : Flow → Option (List ℕ) → Option (List ℕ) → Fault → Type 0
+StopsServing flow now next fault =
+    (blocks : ℕ) (version : Version) (plan : List GameRow) (after : List ℕ) (first : Option (List ℕ))
+    → IsServing blocks version plan after flow.pending.items first now flow.written flow.host
+    → (more : List ℕ) → LeavesLines blocks version plan (pieces_of (after ++ more)) first next fault
+
+-- all that was read is answered, and the final lines are written
+abbrev pub EndsServing : Flow → Option (List ℕ) → Option (List ℕ) → Type 0
+EndsServing flow now next =
+    (blocks : ℕ) (version : Version) (plan : List GameRow) (after : List ℕ) (first : Option (List ℕ))
+    → IsServing blocks version plan after flow.pending.items first now flow.written flow.host
+    → Appends first next (live_lines_of blocks version plan (pieces_of after))
+
+-- it stopped by that fault when all was read
+abbrev pub StopsAtEnd : Flow → Option (List ℕ) → Option (List ℕ) → Fault → Type 0
+StopsAtEnd flow now next fault =
+    (blocks : ℕ) (version : Version) (plan : List GameRow) (after : List ℕ) (first : Option (List ℕ))
+    → IsServing blocks version plan after flow.pending.items first now flow.written flow.host
+    → LeavesLines blocks version plan (pieces_of after) first next fault
 
 -- a host newly opened for a file with that first line
 pub record HasOpened (blocks : ℕ) (first : List ℕ) (host : LiveHost) : Type 0 where

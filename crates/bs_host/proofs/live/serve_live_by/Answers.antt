@@ -1,7 +1,5 @@
-use Rattle.std.proofs.Common.{◌≡◌, None, length, ◌≤◌, rules}
-use Rattle.std.specs.List.{position}
+use Rattle.std.proofs.Common.{rules}
 use Rattle.std.specs.Prelude.{IfSome, option_copied}
-use Rattle.std.specs.Io.KnownBytes.{IsAtEnd}
 use Rattle.bs_json.specs.PlanLine.{plan_line_of}
 use Rattle.bs_host.specs.Faults.{refusal_of_plan}
 use Rattle.bs_host.specs.LiveFaults.{HasLiveCause, IsLiveFault, LeavesLive, live_refusal_of}
