@@ -244,16 +244,21 @@ fn serve_rest<R: Read, W: Write, C: ReadCalls<R> + WriteCalls<W>>(
     output: &mut W,
 ) -> Result<(), Fault>
     ensures written { (blocks : ℕ) (version : Version) (plan : List GameRow) → HasAnswered blocks version plan [] host
-        → OnOk result (IfSome (R.remaining input.old) (λ left. Appends (W.contents output.old) (W.contents output.new) (live_lines_of blocks version plan (lines_behind (option_copied rest) left)))) }
+        → OnOk result (IfSome (R.remaining input.old) (λ left. Appends (W.contents output.old) (W.contents output.new) (live_lines_of blocks version plan (lines_behind (option_copied rest.entry) left)))) }
     ensures left { IfErr result (λ fault. (blocks : ℕ) (version : Version) (plan : List GameRow) → HasAnswered blocks version plan [] host
-        → IfSome (R.remaining input.old) (λ left. LeavesLines blocks version plan (lines_behind (option_copied rest) left) (W.contents output.old) (W.contents output.new) fault)) }
+        → IfSome (R.remaining input.old) (λ left. LeavesLines blocks version plan (lines_behind (option_copied rest.entry) left) (W.contents output.old) (W.contents output.new) fault)) }
     ensures failed { IfErr result (HasLiveCause (C.ReadCalls.has_failed input.new) (C.WriteCalls.has_failed output.new)) }
 {
     match rest {
-        Some(rest) => serve_lines::<R, W, C>(alloc, host, rest, input, output)?,
-        None => end_plan::<W, C>(alloc, &host, output)?,
+        Some(rest) => {
+            serve_lines::<R, W, C>(alloc, host, rest, input, output)?;
+            Ok(())
+        }
+        None => {
+            end_plan::<W, C>(alloc, &host, output)?;
+            Ok(())
+        }
     }
-    Ok(())
 }
 
 /// Like `serve_live`, by the calls `C`: a fault of the reader or of the writer is a call that
