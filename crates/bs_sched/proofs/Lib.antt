@@ -78,7 +78,6 @@ pub mod PlayedStays
 pub mod LoneStays
 pub mod GatheredStays
 pub mod StaysTogether
-pub mod CoresAsStays
 pub mod NotedJobs
 pub mod NextParts
 pub mod Behind

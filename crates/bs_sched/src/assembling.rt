@@ -1,23 +1,19 @@
 //! Stays that were played alone, put together to the core of all of them: no event and no record is
 //! copied.
 ghost use Rattle.std.specs.Prelude.{◌≡◌, ◌+◌, List, ◌≤◌, length, map, IfOk};
-ghost use Rattle.bs_sched.specs.Assembly.{Hand, IsOrderOf, RanApart, RanInOrder, assembled, setting_with};
+ghost use Rattle.bs_sched.specs.Assembly.{setting_with};
 ghost use Rattle.bs_sched.specs.Core.{opened_core, without_tallies};
 ghost use Rattle.bs_pool.specs.Ledger.{size};
-ghost use Rattle.bs_registry.specs.Blocks.{blocks_of_all};
-ghost use Rattle.bs_sched.specs.LoneStay.{kept_of_core};
 ghost use Rattle.bs_sched.specs.SharedMemory.{IsHosted};
 ghost use Rattle.bs_sched.specs.StaysApart.{PlayedStay, stays_assembled};
 ghost use Rattle.bs_sched.specs.StaysHeld.{AreHeld, WerePlayed, blocks_held};
 ghost use Rattle.bs_sched.specs.declared.event.Event.{Event};
-ghost use Rattle.bs_sched.specs.inner.LoneStays.{HaveOneStay, hand_steps};
 
 use crate::cores::{Core, MOST_WORKERS};
 use crate::games::Games;
 use crate::gathering::{GatheredStays, gather_stays};
 use crate::journal::Journal;
 use crate::lone_stay::LoneStay;
-use crate::sharing::Shared;
 use crate::step::Step;
 use bs_block::Block;
 use bs_board::Rows;
@@ -35,32 +31,6 @@ pub struct Rest<const CAP: usize> {
     pub blocks: usize,
     /// The blocks that no stay has.
     pub free: Vec<Block<CAP>>,
-}
-
-/// The stays of cores of one stay each.
-fn into_stays<const CAP: usize>(
-    alloc: Global,
-    cores: Vec<Core<CAP>>,
-) -> Result<Vec<LoneStay<CAP>>, AllocError>
-    requires { HaveOneStay cores.items }
-    ensures { IfOk result (λ stays. stays.items ≡ map kept_of_core cores.entry.items) }
-{
-    let mut stays = Vec::with_capacity(alloc, cores.len())?;
-    for core in cores {
-        stays.push(core.into_lone())?;
-    }
-    Ok(stays)
-}
-
-/// Commands for stays of these rows.
-fn steps_of(alloc: Global, order: &[u32]) -> Result<Vec<Step>, AllocError>
-    ensures { IfOk result (λ steps. steps.items ≡ hand_steps order.now) }
-{
-    let mut steps = Vec::with_capacity(alloc, order.len())?;
-    for row in order {
-        steps.push(Step::Hand(*row))?;
-    }
-    Ok(steps)
 }
 
 impl<const CAP: usize> Core<CAP> {
@@ -85,36 +55,6 @@ impl<const CAP: usize> Core<CAP> {
             blocks,
             free,
         })
-    }
-
-    /// Puts the cores together to the core of all rows, once each of them ran alone: first its
-    /// commands were queued, then they were answered. `order` has the row of each command, in the
-    /// order of the file. The error is the allocator's.
-    pub fn assemble(alloc: Global, shared: Shared<CAP>, order: Vec<u32>) -> Result<Self, AllocError>
-        requires workers { shared.workers ≤ MOST_WORKERS }
-        requires hosted { IsHosted (setting_with CAP shared.blocks shared.workers) shared.rows }
-        requires rest { length shared.rest.items + blocks_of_all CAP shared.rows ≡ shared.blocks }
-        requires apart { RanInOrder CAP shared.workers shared.rows order.items shared.cores.items }
-        ensures { IfOk result (λ core. (hands : List Hand) → IsOrderOf hands order.items
-            → RanApart CAP shared.entry.workers shared.entry.rows hands shared.entry.cores.items
-            → without_tallies core ≡ assembled CAP shared.entry.blocks shared.entry.workers shared.entry.rows hands shared.entry.cores.items) }
-    {
-        let Shared {
-            rows,
-            workers,
-            blocks,
-            cores,
-            rest,
-        } = shared;
-        let order = steps_of(alloc, order.as_slice())?;
-        let stays = into_stays(alloc, cores)?;
-        let rest = Rest {
-            rows,
-            workers,
-            blocks,
-            free: rest,
-        };
-        Core::assemble_stays(alloc, rest, stays, order)
     }
 
     /// Puts stays together to the core of all of them, once each was played alone: those of the

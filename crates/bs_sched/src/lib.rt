@@ -40,7 +40,6 @@ pub use lone_stay::LoneStay;
 pub use opening::Open;
 pub use putting::{Stray, Strays};
 pub use shared_row::SharedRow;
-pub use sharing::Shared;
 pub use stage::Stage;
 pub use stays::{Admit, Leave};
 pub use step::Step;

@@ -1,10 +1,9 @@
-//! Whether cores of one row each, which a thread ran alone, can be put together.
+//! Whether a core of one row, which a thread ran alone, can be put together with others.
 ghost use Rattle.std.specs.Prelude.{◌≡◌, ◌↔◌, ◌∷◌, [], IsTrue, List};
 ghost use Rattle.bs_board.specs.declared.commands.command.Command.{Command};
-ghost use Rattle.bs_sched.specs.Assembly.{AreQueuedFirst, Hand, IsQueuedFirst, RanAlone, RanApart};
+ghost use Rattle.bs_sched.specs.Assembly.{IsQueuedFirst, RanAlone};
 
 use crate::cores::Core;
-use crate::sharing::Shared;
 use bs_board::Row;
 use bs_registry::blocks_of;
 
@@ -44,25 +43,5 @@ impl<const CAP: usize> Core<CAP> {
             && self.workers() == workers
             && self.counts().size == blocks_of(CAP, row)
             && self.is_quiet()
-    }
-}
-
-impl<const CAP: usize> Shared<CAP> {
-    /// Whether there is a core for each row, of that row alone, with its blocks and as many
-    /// workers, and idle.
-    pub fn ran_apart(&self) -> bool
-        ensures { (hands : List Hand) → AreQueuedFirst hands self.now.cores.items → IsTrue result
-            → RanApart CAP self.now.workers self.now.rows hands self.now.cores.items }
-    {
-        let rows = self.rows.as_slice();
-        if self.cores.len() != rows.len() {
-            return false;
-        }
-        for row in 0..rows.len() {
-            if !self.cores[row].ran_alone(&rows[row], self.workers) {
-                return false;
-            }
-        }
-        true
     }
 }
