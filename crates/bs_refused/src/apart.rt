@@ -1,4 +1,4 @@
-//! Cores that are shared out, and games that are run apart and put together.
+//! Cores that are taken apart, and games that are run apart and put together.
 use crate::cores::{Seen, seen_core};
 use crate::fault::Fault;
 use crate::page::Page;
@@ -13,44 +13,6 @@ use std::test::Fail;
 use std::thread::Threads;
 
 const NAMES: [&str; 2] = ["a", "b"];
-
-/// What there is of a core that was shared out: the cores of its rows, and how many blocks are
-/// left.
-#[derive(Debug, Drop)]
-pub struct SharedSeen {
-    workers: usize,
-    blocks: usize,
-    cores: Vec<Seen>,
-    rest: usize,
-}
-
-fn seen_cores(alloc: Global, cores: &[Core<CAP>]) -> Result<Vec<Seen>, Fault> {
-    let mut seen = Vec::new(alloc);
-    for core in cores {
-        seen.push(seen_core(alloc, core)?)?;
-    }
-    Ok(seen)
-}
-
-/// `Core::share_out`, of a core of two games with a number of blocks.
-pub struct ShareOut;
-
-impl Question for ShareOut {
-    type On = usize;
-
-    type Answer = SharedSeen;
-
-    fn call(alloc: Global, on: &usize) -> Result<SharedSeen, Fault> {
-        let core = Core::<CAP>::open(alloc, plan_of(alloc, &NAMES)?, *on, WORKERS)?;
-        let shared = core.share_out(alloc)?;
-        Ok(SharedSeen {
-            workers: shared.workers,
-            blocks: shared.blocks,
-            cores: seen_cores(alloc, shared.cores.as_slice())?,
-            rest: shared.rest.len(),
-        })
-    }
-}
 
 /// What is left of a core that is taken apart, and the quota of its first row, shared.
 #[derive(Debug, Drop)]

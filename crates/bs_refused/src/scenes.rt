@@ -321,11 +321,6 @@ fn core_here(rt: HostRuntime) -> Result<(), Fail> {
 }
 
 #[test]
-fn share_out(rt: HostRuntime) -> Result<(), Fail> {
-    ask::<ShareOut>(page_of(&rt), 13)
-}
-
-#[test]
 fn taken_apart(rt: HostRuntime) -> Result<(), Fail> {
     ask::<TakeApart>(page_of(&rt), 13)
 }

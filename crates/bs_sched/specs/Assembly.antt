@@ -159,17 +159,6 @@ pub record RanApart (cap workers : ℕ) (plan : List GameRow) (hands : List Hand
   pub many : length cores ≡ length plan
   pub each : (row : ℕ) → row < length plan → RanAlone cap workers (row_at plan row) (commands_for row hands) (core_at cores row)
 
--- the commands of a file, queued for the games of these rows
-abbrev pub IsOrderOf : List Hand → List ℕ → Type 0
-IsOrderOf hands order = map (λ hand. hand.row) hands ≡ order
-
--- each core ran its commands of a file, whose rows are in that order
-pub record RanInOrder (cap workers : ℕ) (plan : List GameRow) (order : List ℕ) (cores : List CoreView) : Type 0 where
-  pub hands : List Hand
-  pub ordered : IsOrderOf hands order
-  pub within : All (λ hand. hand.row < length plan) hands
-  pub apart : RanApart cap workers plan hands cores
-
 abbrev pub setting_with : ℕ → ℕ → ℕ → Setting
 setting_with cap blocks workers = record { cap = cap; blocks = blocks; workers = workers }
 

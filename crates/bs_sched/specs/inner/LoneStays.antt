@@ -1,5 +1,5 @@
 -- How a stay that was played alone lies in its fields, and how such stays are gathered.
-use Rattle.std.specs.Prelude.{◌≡◌, ℕ, suc, ◌<◌, ◌≤◌, true, List, [], ◌∷◌, ◌++◌, length, map, All, Option, Some, None}
+use Rattle.std.specs.Prelude.{◌≡◌, ℕ, suc, ◌<◌, ◌≤◌, true, List, [], ◌∷◌, ◌++◌, map, All, Option, Some, None}
 use Rattle.bs_heap.specs.PackedPlaces.{AreApart}
 use Rattle.bs_heap.specs.Packing.{Packing, no_packing, numbers_of}
 use Rattle.bs_heap.specs.Renaming.{renamed_packing}
@@ -9,9 +9,6 @@ use Rattle.bs_pool.specs.Woven.{ArePlaces, place_in}
 use Rattle.bs_registry.specs.declared.blocks.TheConstants.{MOST_STAYS}
 use Rattle.bs_sched.specs.declared.event.Event.{Event}
 use Rattle.bs_sched.specs.declared.lone_stay.LoneStay.TheInside.{Inside}
-use Rattle.bs_sched.specs.declared.step.Step.{Step}
-use Rattle.bs_sched.specs.declared.step.Step.TheVariants as step
-use Rattle.bs_sched.specs.Core.{CoreView}
 use Rattle.bs_sched.specs.Game.{GameView}
 use Rattle.bs_sched.specs.Lane.{is_idle}
 use Rattle.bs_sched.specs.LoneStay.{LoneView}
@@ -25,15 +22,6 @@ lone_in s =
 -- the storage has the places of one stay
 abbrev pub HasOneStay : Storage → Type 0
 HasOneStay s = s ≡ record { packings = packing_of s 0 ∷ []; frames = frames_of s 0 ∷ []; pool = s.pool }
-
--- each core has one stay
-abbrev pub HaveOneStay : List CoreView → Type 0
-HaveOneStay [] = Unit {0}
-HaveOneStay (core ∷ cores) = (length core.games.lanes ≡ 1) × HaveOneStay cores
-
--- commands for stays of these rows
-abbrev pub hand_steps : List ℕ → List Step
-hand_steps = map (λ row. step.Hand row)
 
 -- Stays gathered one after the other.
 
