@@ -379,6 +379,7 @@ impl<R: Threads + Sync, G: Gate> Player<'_, R, G> {
     }
 
     /// Plays all stays on at most that many threads, with these blocks.
+    #[tactic(auto, using(crate::proofs::PlayedStays::none_played))]
     pub(crate) fn play_all<const CAP: usize>(
         &self,
         threads: usize,
