@@ -6,7 +6,7 @@ use crate::play::{CAP, WORKERS, commands};
 use crate::scene::Question;
 use crate::values::plan_of;
 use bs_fiber::SharedCommand;
-use bs_sched::Core;
+use bs_sched::{Core, SharedRow};
 use bs_workers::{Act, OpenGate, run_any};
 use std::alloc::Global;
 use std::test::Fail;
@@ -48,6 +48,38 @@ impl Question for ShareOut {
             blocks: shared.blocks,
             cores: seen_cores(alloc, shared.cores.as_slice())?,
             rest: shared.rest.len(),
+        })
+    }
+}
+
+/// What is left of a core that is taken apart, and the quota of its first row, shared.
+#[derive(Debug, Drop)]
+pub struct RestSeen {
+    rows: usize,
+    workers: usize,
+    blocks: usize,
+    free: usize,
+    quota: u32,
+}
+
+/// `Core::into_rest`, of a core of two games with a number of blocks, and `SharedRow::share`.
+pub struct TakeApart;
+
+impl Question for TakeApart {
+    type On = usize;
+
+    type Answer = RestSeen;
+
+    fn call(alloc: Global, on: &usize) -> Result<RestSeen, Fault> {
+        let core = Core::<CAP>::open(alloc, plan_of(alloc, &NAMES)?, *on, WORKERS)?;
+        let first = SharedRow::new(alloc, core.row(0).copy(alloc)?)?;
+        let rest = core.into_rest(alloc)?;
+        Ok(RestSeen {
+            rows: rest.rows.as_slice().len(),
+            workers: rest.workers,
+            blocks: rest.blocks,
+            free: rest.free.len(),
+            quota: first.share()?.get().quota,
         })
     }
 }

@@ -1,5 +1,5 @@
 //! The scenes, each a test that is named for its calls.
-use crate::apart::{OpenAgain, ShareOut, play_apart};
+use crate::apart::{OpenAgain, ShareOut, TakeApart, play_apart};
 use crate::assembly::{IntoBlocks, PutTogether, play_from_blocks};
 use crate::blocks::{NewBlock, NewHeap, OpenPool, play_grow_index, play_reserve};
 use crate::boards::{
@@ -323,6 +323,11 @@ fn core_here(rt: HostRuntime) -> Result<(), Fail> {
 #[test]
 fn share_out(rt: HostRuntime) -> Result<(), Fail> {
     ask::<ShareOut>(page_of(&rt), 13)
+}
+
+#[test]
+fn taken_apart(rt: HostRuntime) -> Result<(), Fail> {
+    ask::<TakeApart>(page_of(&rt), 13)
 }
 
 #[test]

@@ -30,8 +30,4 @@ mod runs;
 #[cfg(test)]
 mod stays;
 #[cfg(test)]
-mod stays_apart;
-#[cfg(test)]
-mod stays_runs;
-#[cfg(test)]
 mod threads;

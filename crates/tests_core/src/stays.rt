@@ -2,8 +2,8 @@
 use crate::player::{CAP, core_of, hand, play_one};
 use bs_block::Block;
 use bs_board::{Command, Refusal, Reply};
-use bs_samples::{holds, new_solo, row, same};
-use bs_sched::{Admit, Core, Counts, Leave, blocks_of};
+use bs_samples::{holds, new_solo, plan_of, row, same};
+use bs_sched::{Admit, Core, Counts, Leave, SharedRow, blocks_of};
 use std::alloc::Global;
 use std::test::Fail;
 
@@ -218,4 +218,26 @@ fn the_blocks_of_a_closed_core_serve_the_next(rt: HostRuntime) -> Result<(), Fai
     let lone = next.into_lone();
     drop(lone);
     Ok(())
+}
+
+/// All blocks of a core that was just opened are free once it is taken apart.
+#[test]
+fn a_new_core_is_taken_apart(rt: HostRuntime) -> Result<(), Fail> {
+    let alloc = rt.alloc();
+    let core = Core::<CAP>::open(alloc, plan_of(alloc, &[("a", 64)])?, BLOCKS, 2)?;
+    let rest = core.into_rest(alloc)?;
+    same("rows", rest.rows.as_slice().len(), 1)?;
+    same("workers", rest.workers, 2)?;
+    same("blocks", rest.blocks, BLOCKS)?;
+    same("free", rest.free.len(), BLOCKS)
+}
+
+/// Both handles have the row.
+#[test]
+fn a_row_is_shared(rt: HostRuntime) -> Result<(), Fail> {
+    let alloc = rt.alloc();
+    let first = SharedRow::new(alloc, row(alloc, "a", 64)?)?;
+    let second = first.share()?;
+    same("quota", second.get().quota, 64)?;
+    holds("name", second.get().game == first.get().game)
 }
