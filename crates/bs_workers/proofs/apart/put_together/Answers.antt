@@ -19,7 +19,7 @@ assemble_stays-requires g c =
     = record { acts = map event_of c.args.acts.now; played = put.played; were = put.were } in
     let blocks =
     ap (λ stays. length rest.free.items + blocks_held stays) (sym c.as_slice.ensures.value) ∙ c.have_all.ensures c.if-not-have_all.false in
-    (omega arith, omega arith, omega arith, c.requires.workers, c.requires.hosted, blocks, held)
+    (omega arith, (omega arith, (omega arith, (c.requires.workers, (c.requires.hosted, (blocks, held))))))
 
 pub returns-clause-run : goal.returns-clause-run
 returns-clause-run g c =
