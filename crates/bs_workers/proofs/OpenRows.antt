@@ -2,8 +2,8 @@
 use Rattle.std.proofs.Common.{◌≡◌, ◌≢◌, ℕ, suc, ◌+◌, ◌-◌, ◌<◌, Bool, true, false, not, List, [], ◌∷◌, ◌++◌, length, map, take, get_or, Option, Some, None, refl, sym, ap, subst, ◌∙◌, arith, inl, inr}
 use Rattle.std.specs.Prelude.{◌&&◌, fold, nat_eq, nat_le, nat_lt}
 use Rattle.std.specs.List.{filter, list_any, position}
-use Rattle.std.specs.Option.{is_none, is_some}
-use Rattle.std.proofs.lemmas.Bool.{and_from, and_parts, cases_Bool, lt-ltb}
+use Rattle.std.specs.Option.{is_some}
+use Rattle.std.proofs.lemmas.Bool.{and_from, and_parts, cases_Bool, lt-ltb, ltb-true}
 use Rattle.std.proofs.lemmas.Bool.Decides.{eqb_tells}
 use Rattle.std.proofs.lemmas.List.{get_or_default, length-append, length-set, map-append, take_more}
 use Rattle.std.proofs.lemmas.List.Folds.{list_any-from_Any}
@@ -29,6 +29,12 @@ use Rattle.bs_workers.specs.inner.Stays.{IsFollowed}
 
 -- a stay of that number is listed, so it is there and open
 
+one_behind : (entry : Stay) (registry : List Stay) (at : ℕ) → is_in registry at ≡ true → is_in (entry ∷ registry) (suc at) ≡ true
+one_behind entry registry at there =
+    let parts = and_parts (nat_lt at (length registry)) (stay_at registry at).is_open there in
+    let less : at < length registry = ltb-true at (length registry) parts.0 in
+    and_from (nat_lt (suc at) (suc (length registry))) (stay_at registry at).is_open (lt-ltb (suc at) (suc (length registry)) (omega (arith, less))) parts.1
+
 numbered : (first number : ℕ) (registry : List Stay) → list_any (λ (stay : ℕ × GameRow). nat_eq stay.0 number) (open_from first registry) ≡ true
     → (at : ℕ) × (number ≡ first + at) × (is_in registry at ≡ true)
 numbered first number [] any = absurd cc
@@ -43,12 +49,12 @@ numbered first number (entry ∷ registry) any =
             | inr other ↦
                 let later : list_any (λ (stay : ℕ × GameRow). nat_eq stay.0 number) (open_from (first + 1) registry) ≡ true = rw (on, other.0) at any in
                 let rest = numbered (first + 1) number registry later in
-                (suc rest.0, rest.1 ∙ omega arith, rest.2)
+                (suc rest.0, rest.1 ∙ omega arith, one_behind entry registry rest.0 rest.2)
           ]
       | inr off ↦
           let later : list_any (λ (stay : ℕ × GameRow). nat_eq stay.0 number) (open_from (first + 1) registry) ≡ true = rw off at any in
           let rest = numbered (first + 1) number registry later in
-          (suc rest.0, rest.1 ∙ omega arith, rest.2)
+          (suc rest.0, rest.1 ∙ omega arith, one_behind entry registry rest.0 rest.2)
     ]
 
 pub is_there : (registry : List Stay) (listing : Listing (Unit {0})) (number place : ℕ) → seen listing ≡ open_stays_of registry
@@ -147,10 +153,6 @@ found : (o : Option ℕ) → is_some o ≡ true → (place : ℕ) × (o ≡ Some
 found None on = absurd cc
 found (Some place) on = (place, refl)
 
-found_so : (o : Option ℕ) → is_none o ≡ false → (place : ℕ) × (o ≡ Some place)
-found_so None off = absurd cc
-found_so (Some place) off = (place, refl)
-
 none_of : (o : Option Refusal) → is_some o ≡ false → o ≡ None
 none_of None off = refl
 none_of (Some refusal) off = absurd cc
@@ -164,10 +166,10 @@ follows_hand capacity registry listing a number command at is sees looked some =
     (hand_followed capacity registry listing number one.0 command sees (sym looked ∙ one.1))
 
 pub follows_leave : (capacity : Capacity) (registry : List Stay) (listing new : Listing (Unit {0})) (a : Act) (number : ℕ) (at : Option ℕ) → a ≡ act.Leave number
-    → seen listing ≡ open_stays_of registry → at ≡ position (is_numbered number) listing.stays → is_none at ≡ false → new ≡ without_stay number listing
+    → seen listing ≡ open_stays_of registry → at ≡ position (is_numbered number) listing.stays → is_some at ≡ true → new ≡ without_stay number listing
     → IsFollowed capacity registry a (seen new)
 follows_leave capacity registry listing new a number at is sees looked some removed =
-    let one = found_so at some in
+    let one = found at some in
     subst (λ (b : Act). IsFollowed capacity registry b (seen new)) (sym is)
     (leave_followed capacity registry listing new number one.0 sees (sym looked ∙ one.1) removed)
 

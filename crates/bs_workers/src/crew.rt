@@ -164,7 +164,7 @@ impl<R: Threads + Sync, G: Gate> Player<'_, R, G> {
     /// which it has too few blocks.
     fn run_rows<const CAP: usize>(
         &self,
-        turns: &Turns<'_, CAP>,
+        turns: &Turns<CAP>,
         thread: usize,
     ) -> Result<Ran<CAP>, Stop>
         ensures played { IfOk result (λ ran. All (λ lone. IsPlayedStay CAP self.now.workers self.now.acts.now self.now.stays.now lone.row lone.stay) ran.stays.items) }
@@ -189,14 +189,14 @@ impl<R: Threads + Sync, G: Gate> Player<'_, R, G> {
     fn join_rows<const CAP: usize>(
         &self,
         mut rans: Vec<Result<Ran<CAP>, Stop>>,
-        free: &mut Vec<Block<CAP>>,
-    ) -> Result<Vec<Lone<CAP>>, Stop>
+    ) -> Result<Ran<CAP>, Stop>
         requires { All (λ some. IfOk some (λ ran. All (λ lone. IsPlayedStay CAP self.now.workers self.now.acts.now self.now.stays.now lone.row lone.stay) ran.stays.items)
             × IfErr some (IsStopCause (G.may_refuse self.now.gate.now))) rans.items }
-        ensures played { IfOk result (λ ran. All (λ lone. IsPlayedStay CAP self.now.workers self.now.acts.now self.now.stays.now lone.row lone.stay) ran.items) }
+        ensures played { IfOk result (λ ran. All (λ lone. IsPlayedStay CAP self.now.workers self.now.acts.now self.now.stays.now lone.row lone.stay) ran.stays.items) }
         ensures cause { IfErr result (IsStopCause (G.may_refuse self.now.gate.now)) }
     {
         let mut all = Vec::new(self.alloc);
+        let mut free = Vec::new(self.alloc);
         let mut stopped = None;
         for _ in 0..rans.len() {
             match rans.pop() {
@@ -211,18 +211,20 @@ impl<R: Threads + Sync, G: Gate> Player<'_, R, G> {
         }
         match stopped {
             Some(stop) => Err(stop),
-            None => Ok(all),
+            None => Ok(Ran {
+                stays: all,
+                blocks: free,
+            }),
         }
     }
 
     /// Has that many threads play stays.
     fn run_all<const CAP: usize>(
         &self,
-        turns: &Turns<'_, CAP>,
+        turns: &Turns<CAP>,
         threads: usize,
-        free: &mut Vec<Block<CAP>>,
-    ) -> Result<Vec<Lone<CAP>>, Stop>
-        ensures played { IfOk result (λ ran. All (λ lone. IsPlayedStay CAP self.now.workers self.now.acts.now self.now.stays.now lone.row lone.stay) ran.items) }
+    ) -> Result<Ran<CAP>, Stop>
+        ensures played { IfOk result (λ ran. All (λ lone. IsPlayedStay CAP self.now.workers self.now.acts.now self.now.stays.now lone.row lone.stay) ran.stays.items) }
         ensures cause { IfErr result (IsStopCause (G.may_refuse self.now.gate.now)) }
     {
         let rans = map_indices(
@@ -234,7 +236,7 @@ impl<R: Threads + Sync, G: Gate> Player<'_, R, G> {
                     × IfErr result (IsStopCause (G.may_refuse self.entry.now.gate.now)) }
             { self.run_rows(turns, thread) },
         )?;
-        self.join_rows(rans, free)
+        self.join_rows(rans)
     }
 
     /// A list of blocks for each thread, each with as many.
@@ -295,7 +297,7 @@ impl<R: Threads + Sync, G: Gate> Player<'_, R, G> {
     fn play_apart<const CAP: usize>(
         &self,
         threads: usize,
-        rows: &[usize],
+        rows: Vec<usize>,
         leaving: bool,
         table: &mut Table<CAP>,
     ) -> Result<(), Stop>
@@ -311,14 +313,15 @@ impl<R: Threads + Sync, G: Gate> Player<'_, R, G> {
             let shares = self.shares_of(threads, &mut table.free)?;
             Turns::new(rows, shares, Vec::new(self.alloc))
         } else {
-            let lots = self.lots_of(rows, &mut table.free)?;
+            let lots = self.lots_of(rows.as_slice(), &mut table.free)?;
             Turns::new(rows, Vec::new(self.alloc), lots)
         };
-        let ran = self.run_all(&turns, threads, &mut table.free)?;
+        let Ran { stays, mut blocks } = self.run_all(&turns, threads)?;
+        table.free.append(&mut blocks)?;
         let Turns { shares, lots, .. } = turns;
         take_back(&mut table.free, shares)?;
         take_back(&mut table.free, lots)?;
-        self.keep(ran, table)?;
+        self.keep(stays, table)?;
         Ok(())
     }
 
@@ -373,12 +376,13 @@ impl<R: Threads + Sync, G: Gate> Player<'_, R, G> {
         let rows = rows_of(self.alloc, self.stays.leaves.as_slice(), leaving)?;
         let mover = only_mover(self.acts, self.stays.rows.len());
         let others = without(self.alloc, rows.as_slice(), mover)?;
-        self.play_apart(threads, others.as_slice(), leaving, table)?;
+        self.play_apart(threads, others, leaving, table)?;
         self.play_left(threads, rows.as_slice(), table)?;
         Ok(())
     }
 
     /// Plays all stays on at most that many threads, with these blocks.
+    #[tactic(auto, using(crate::proofs::PlayedStays::none_played))]
     pub(crate) fn play_all<const CAP: usize>(
         &self,
         threads: usize,

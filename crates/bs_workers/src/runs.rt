@@ -107,7 +107,8 @@ fn run_threads<const CAP: usize, R: Threads + Sync, G: Gate>(
     requires acts { are_acceptable (record { cap = CAP; blocks = rest.blocks }) (opened rest.rows) acts.now ≡ true }
     ensures run { (old : CoreView) → old ≡ opened_core CAP rest.entry.blocks rest.entry.workers rest.entry.rows → rest.entry.rows ≡ old.games.rows
         → rest.entry.blocks ≡ size old.games.storage.pool → IfOk result (λ done. IsRunOf old acts.now done) }
-    ensures cause { IfErr result (IsCause (G.may_refuse gate.now)) }
+    ensures cause { (old : CoreView) → old ≡ opened_core CAP rest.entry.blocks rest.entry.workers rest.entry.rows
+        → are_acceptable (capacity_of_core CAP old) (opened old.games.rows) acts.now ≡ true → IfErr result (IsCause (G.may_refuse gate.now)) }
 {
     let given = opening_of(alloc, &rest)?;
     match run_apart(rt, alloc, rest, acts, threads, gate) {

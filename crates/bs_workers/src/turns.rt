@@ -32,8 +32,8 @@ impl<const CAP: usize> Lot<CAP> {
 
 /// The rows of stays that no thread has taken yet.
 #[derive(Drop)]
-pub(crate) struct Turns<'a, const CAP: usize> {
-    pub(crate) rows: &'a [usize],
+pub(crate) struct Turns<const CAP: usize> {
+    pub(crate) rows: Vec<usize>,
     /// The first place of `rows` that no thread has asked for.
     next: AtomicU64,
     /// A list of blocks for each thread, if all their stays leave.
@@ -42,8 +42,8 @@ pub(crate) struct Turns<'a, const CAP: usize> {
     pub(crate) lots: Vec<Lot<CAP>>,
 }
 
-impl<'a, const CAP: usize> Turns<'a, CAP> {
-    pub(crate) fn new(rows: &'a [usize], shares: Vec<Lot<CAP>>, lots: Vec<Lot<CAP>>) -> Self {
+impl<const CAP: usize> Turns<CAP> {
+    pub(crate) fn new(rows: Vec<usize>, shares: Vec<Lot<CAP>>, lots: Vec<Lot<CAP>>) -> Self {
         Turns {
             rows,
             next: AtomicU64::new(0),
@@ -54,7 +54,7 @@ impl<'a, const CAP: usize> Turns<'a, CAP> {
 
     /// The next place of `rows`. Each is returned once.
     pub(crate) fn next(&self) -> Option<usize>
-        ensures { IfSome result (λ place. place < length self.now.rows.now) }
+        ensures { IfSome result (λ place. place < length self.now.rows.items) }
     {
         let place = self.next.fetch_add(1, Ordering::SeqCst) as usize;
         if place < self.rows.len() {

@@ -1,5 +1,5 @@
 -- The act is acceptable, and these stays are open after it.
-use Rattle.std.proofs.Common.{sym, ◌∙◌}
+use Rattle.std.proofs.Common.{ap, not, sym, ◌∙◌}
 use Rattle.bs_workers.proofs.OpenRows.{follows_admit, follows_hand, follows_leave}
 use Rattle.bs_workers.proofs.acceptable.follow.Goals as goal
 
@@ -15,4 +15,4 @@ returns-in_ok-push-in-Admit g c =
 pub returns-else-is_none : goal.returns-else-is_none
 returns-else-is_none g c =
     λ registry sees on.
-    follows_leave _ registry _ _ _ _ _ c.in-Leave.is sees c.place_of-in-Leave.ensures (sym c.is_none.ensures ∙ c.if-is_none.false) c.remove.ensures
+    follows_leave _ registry _ _ _ _ _ c.in-Leave.is sees c.place_of-in-Leave.ensures (c.is_none.ensures ∙ ap not c.if-is_none.false) c.remove.ensures

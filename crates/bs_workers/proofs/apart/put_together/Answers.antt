@@ -1,8 +1,8 @@
 -- The core of all stays has the plan and the blocks, its journal makes the acts, and it is idle.
-use Rattle.std.proofs.Common.{◌≡◌, length, map, refl, rules, sym, ap, ◌∙◌, arith}
+use Rattle.std.proofs.Common.{◌≡◌, ◌+◌, length, map, refl, rules, sym, ap, ◌∙◌, arith}
 use Rattle.bs_pool.specs.Ledger.{size}
 use Rattle.bs_sched.specs.Core.{CoreView}
-use Rattle.bs_sched.specs.StaysHeld.{AreHeld}
+use Rattle.bs_sched.specs.StaysHeld.{AreHeld, blocks_held}
 use Rattle.bs_workers.specs.Run.{acts_of}
 use Rattle.bs_workers.specs.inner.Stays.{event_of}
 use Rattle.bs_workers.proofs.Ended.{run_made}
@@ -17,8 +17,9 @@ assemble_stays-requires g c =
     are_put g.row.CAP rest.blocks rest.workers rest.rows c.args.acts.now c.args.stays c.args.played.items c.requires.acceptable c.requires.listed many c.requires.played in
     let held : AreHeld g.row.CAP rest.blocks rest.workers rest.rows c.args.played.items c.args.stays.order.items
     = record { acts = map event_of c.args.acts.now; played = put.played; were = put.were } in
-    let blocks = c.have_all.ensures c.if-not-have_all.false in
-    (omega arith, omega arith, omega arith, c.requires.workers, c.requires.hosted, blocks, held)
+    let blocks =
+    ap (λ stays. length rest.free.items + blocks_held stays) (sym c.as_slice.ensures.value) ∙ c.have_all.ensures c.if-not-have_all.false in
+    (omega arith, (omega arith, (omega arith, (c.requires.workers, (c.requires.hosted, (blocks, held))))))
 
 pub returns-clause-run : goal.returns-clause-run
 returns-clause-run g c =
