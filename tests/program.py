@@ -10,7 +10,7 @@ from typing import Any
 
 ROOT = Path(__file__).resolve().parent.parent
 BUILT = ROOT / "crates/arena/out/arena"  # ./arena --help and the gate build it
-SECONDS = 60  # the limit of a run
+SECONDS = 600  # the limit of a run, on a busy machine
 
 path = BUILT  # the program that is run; the fixture `program` sets it
 

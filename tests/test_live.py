@@ -17,7 +17,7 @@ import pytest
 from cases import lines_by_game
 from program import ROOT, line, run, run_bytes, text_of
 
-SECONDS = 20  # the limit of an answer
+SECONDS = 300  # the limit of an answer, on a busy machine
 MOST_LINE = 65_536  # bytes of a line
 MOST_GAMES = 64  # that are open at once
 SEED = 7

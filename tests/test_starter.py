@@ -188,7 +188,7 @@ class TestFirst:
 
 def wait_for(holds: Callable[[], bool]) -> None:
     """Waits until something holds."""
-    for _ in range(200):
+    for _ in range(3000):
         if holds():
             return
         time.sleep(0.1)

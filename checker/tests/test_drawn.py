@@ -14,7 +14,7 @@ from checker import drawn_files
 from checker.command_file import check
 
 KEPT = ROOT / "out/checker"
-SECONDS = 20
+SECONDS = 300  # on a busy machine
 UNSERVED = 4  # exit status
 FORM = "P1 P2 P3 L1 L2 L3 A1 A2 A3 A5 G1".split()
 BATCH = 50

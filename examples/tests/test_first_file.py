@@ -41,7 +41,7 @@ def test_the_guide_shows_live_bot():
 
 def test_live_bot_plays_until_its_snake_is_out(program):
     words = [EXAMPLES / "live_bot.py", program]
-    ran = subprocess.run(words, capture_output=True, text=True, check=True, timeout=60)
+    ran = subprocess.run(words, capture_output=True, text=True, check=True, timeout=600)
     *replies, final = map(json.loads, ran.stdout.splitlines())
     assert [it["seq"] for it in replies] == list(range(1, len(replies) + 1))
     assert (final["board"], final["final"]) == (replies[-1]["board"], True)

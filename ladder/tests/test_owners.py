@@ -153,14 +153,14 @@ class OneWrite(Handler):
 
 
 def test_answer_in_two_writes_is_not_held_up_by_its_acknowledgement() -> None:
-    """Nagle's algorithm holds the body until the head is acknowledged: usually for 40 ms.
+    """Nagle's algorithm holds the body until the head is acknowledged: nearly always for 40 ms.
 
-    An answer in one write takes as long as this machine needs."""
+    On a busy machine some answers are quick nevertheless, as those in one write are."""
 
     async def work(urls: list[str]) -> list[list[float]]:
         times: list[list[float]] = [[], []]
         async with BotClient(PATIENT) as client:
-            for _ in range(40):
+            for _ in range(80):
                 for at, url in enumerate(urls):
                     (answer,) = await client.moves([(url, b"{}")])
                     assert answer.move == "up"
@@ -170,7 +170,7 @@ def test_answer_in_two_writes_is_not_held_up_by_its_acknowledgement() -> None:
     with python_server(http.server.ThreadingHTTPServer) as two_writes:
         with python_server(http.server.ThreadingHTTPServer, OneWrite) as one_write:
             held, plain = asyncio.run(work([two_writes, one_write]))
-    assert held[10] < plain[10] + 0.025
+    assert held[8] < plain[8] + 0.025
 
 
 def test_server_of_one_thread_is_recognised_and_misses_no_move() -> None:

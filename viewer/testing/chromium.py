@@ -210,7 +210,7 @@ class Browser:
         """The errors in the browser's console since the last call."""
         return [entry["message"] for entry in self.call("POST", "/se/log", {"type": "browser"})]
 
-    def wait(self, script: str, *arguments: Any, seconds: float = 20) -> Any:
+    def wait(self, script: str, *arguments: Any, seconds: float = 60) -> Any:
         """Waits until a script returns a true value, and returns it."""
         ends = time.monotonic() + seconds
         while True:

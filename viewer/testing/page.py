@@ -86,7 +86,7 @@ class Page:
         """Opens the page from its file, without a transcript."""
         self.browser.go(PAGE.as_uri() + fragment)
 
-    def choose(self, path: Path, seconds: float = 20) -> None:
+    def choose(self, path: Path, seconds: float = 60) -> None:
         """Chooses a file, and waits until it has been opened or refused."""
         self.browser.type_into("#choose", str(path))
         self.wait_until_read(path.name, seconds)
@@ -95,7 +95,7 @@ class Page:
         self.browser.drop(path)
         self.wait_until_read(path.name)
 
-    def wait_until_read(self, name: str, seconds: float = 20) -> None:
+    def wait_until_read(self, name: str, seconds: float = 60) -> None:
         self.browser.wait(
             """
             const isRead = ['open', 'fault'].includes(document.body.dataset.state);
@@ -169,7 +169,7 @@ class Page:
             f"Turn {turn} of {last}",
         )
 
-    def wait_for_plots(self, seconds: float = 20) -> None:
+    def wait_for_plots(self, seconds: float = 60) -> None:
         self.browser.wait(
             "return document.getElementById('snakes').getAttribute('aria-busy') === 'false'",
             seconds=seconds,

