@@ -16,30 +16,30 @@ use std::alloc::{AllocError, Global};
 /// Makes the act where these stays are open and there are that many blocks, if it is acceptable.
 fn follow<const CAP: usize>(
     alloc: Global,
-    open: &mut Registry<()>,
+    listed: &mut Registry<()>,
     blocks: usize,
     act: &Act,
 ) -> Result<bool, AllocError>
     requires { LEAST_CAPACITY ≤ CAP }
-    ensures { (registry : List Stay) → seen open.old ≡ open_stays_of registry
-        → IfOk result (λ goes_on. IsTrue goes_on → IsFollowed (record { cap = CAP; blocks = blocks }) registry act.now (seen open.new)) }
+    ensures { (registry : List Stay) → seen listed.old ≡ open_stays_of registry
+        → IfOk result (λ goes_on. IsTrue goes_on → IsFollowed (record { cap = CAP; blocks = blocks }) registry act.now (seen listed.new)) }
 {
     match act {
-        Act::Hand(stay, _) => Ok(open.place_of(*stay).is_some()),
+        Act::Hand(stay, _) => Ok(listed.place_of(*stay).is_some()),
         Act::Admit(row) => {
             let needed = blocks_of(CAP, row.get());
-            let left = open.left_of(CAP, blocks);
-            if open.refusal(row.get(), needed, left).is_some() {
+            let left = listed.left_of(CAP, blocks);
+            if listed.refusal(row.get(), needed, left).is_some() {
                 return Ok(false);
             }
-            open.push(row.get().copy(alloc)?, ())?;
+            listed.push(row.get().copy(alloc)?, ())?;
             Ok(true)
         }
         Act::Leave(stay) => {
-            if open.place_of(*stay).is_none() {
+            if listed.place_of(*stay).is_none() {
                 return Ok(false);
             }
-            open.remove(*stay);
+            listed.remove(*stay);
             Ok(true)
         }
     }

@@ -293,6 +293,33 @@ impl<R: Threads + Sync, G: Gate> Player<'_, R, G> {
         Ok(())
     }
 
+    /// Has that many threads play the stays of these rows, which all leave or all stay open, with
+    /// blocks of the list. Returns those that were played.
+    fn run_stays<const CAP: usize>(
+        &self,
+        threads: usize,
+        rows: Vec<usize>,
+        leaving: bool,
+        free: &mut Vec<Block<CAP>>,
+    ) -> Result<Vec<Lone<CAP>>, Stop>
+        ensures played { IfOk result (λ ran. All (λ lone. IsPlayedStay CAP self.now.workers self.now.acts.now self.now.stays.now lone.row lone.stay) ran.items) }
+        ensures cause { IfErr result (IsStopCause (G.may_refuse self.now.gate.now)) }
+    {
+        let turns = if leaving {
+            let shares = self.shares_of(threads, free)?;
+            Turns::new(rows, shares, Vec::new(self.alloc))
+        } else {
+            let lots = self.lots_of(rows.as_slice(), free)?;
+            Turns::new(rows, Vec::new(self.alloc), lots)
+        };
+        let Ran { stays, mut blocks } = self.run_all(&turns, threads)?;
+        free.append(&mut blocks)?;
+        let Turns { shares, lots, .. } = turns;
+        take_back(free, shares)?;
+        take_back(free, lots)?;
+        Ok(stays)
+    }
+
     /// Has at most that many threads play the stays of these rows, which all leave or all stay open.
     fn play_apart<const CAP: usize>(
         &self,
@@ -309,18 +336,7 @@ impl<R: Threads + Sync, G: Gate> Player<'_, R, G> {
         if threads <= 1 {
             return Ok(());
         }
-        let turns = if leaving {
-            let shares = self.shares_of(threads, &mut table.free)?;
-            Turns::new(rows, shares, Vec::new(self.alloc))
-        } else {
-            let lots = self.lots_of(rows.as_slice(), &mut table.free)?;
-            Turns::new(rows, Vec::new(self.alloc), lots)
-        };
-        let Ran { stays, mut blocks } = self.run_all(&turns, threads)?;
-        table.free.append(&mut blocks)?;
-        let Turns { shares, lots, .. } = turns;
-        take_back(&mut table.free, shares)?;
-        take_back(&mut table.free, lots)?;
+        let stays = self.run_stays(threads, rows, leaving, &mut table.free)?;
         self.keep(stays, table)?;
         Ok(())
     }

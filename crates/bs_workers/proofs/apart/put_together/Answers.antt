@@ -11,26 +11,24 @@ use Rattle.bs_workers.proofs.apart.put_together.Goals as goal
 
 pub assemble_stays-requires : goal.assemble_stays-requires
 assemble_stays-requires g c =
-    let rest = c.args.rest in
     let many : length c.args.played.items ≡ length c.args.stays.rows.items = search rules in
     let put =
-    are_put g.row.CAP rest.blocks rest.workers rest.rows c.args.acts.now c.args.stays c.args.played.items c.requires.acceptable c.requires.listed many c.requires.played in
-    let held : AreHeld g.row.CAP rest.blocks rest.workers rest.rows c.args.played.items c.args.stays.order.items
+    are_put g.row.CAP c.args.rest.blocks c.args.rest.workers c.args.rest.rows c.args.acts.now c.args.stays c.args.played.items c.requires.acceptable c.requires.listed many c.requires.played in
+    let held : AreHeld g.row.CAP c.args.rest.blocks c.args.rest.workers c.args.rest.rows c.args.played.items c.args.stays.order.items
     = record { acts = map event_of c.args.acts.now; played = put.played; were = put.were } in
     let blocks =
-    ap (λ stays. length rest.free.items + blocks_held stays) (sym c.as_slice.ensures.value) ∙ c.have_all.ensures c.if-not-have_all.false in
+    ap (λ stays. length c.args.rest.free.items + blocks_held stays) (sym c.as_slice.ensures.value) ∙ c.have_all.ensures c.if-not-have_all.false in
     (omega arith, (omega arith, (omega arith, (c.requires.workers, (c.requires.hosted, (blocks, held))))))
 
 pub returns-clause-run : goal.returns-clause-run
 returns-clause-run g c =
     λ old rows blocks.
-    let rest = c.args.rest in
     let acts = c.args.acts.now in
     let many : length c.args.played.items ≡ length c.args.stays.rows.items = search rules in
     let put =
-    are_put g.row.CAP rest.blocks rest.workers rest.rows acts c.args.stays c.args.played.items c.requires.acceptable c.requires.listed many c.requires.played in
+    are_put g.row.CAP c.args.rest.blocks c.args.rest.workers c.args.rest.rows acts c.args.stays c.args.played.items c.requires.acceptable c.requires.listed many c.requires.played in
     let is = c.in_ok-core.ensures (map event_of acts) put.played put.were in
-    let same : size c.in_ok-core.core.games.storage.pool ≡ rest.blocks = search rules in
+    let same : size c.in_ok-core.core.games.storage.pool ≡ c.args.rest.blocks = search rules in
     run_made g.row.CAP acts old c.in_ok-core.core c.keeps_apart.ensures
     (ap (λ (core : CoreView). acts_of core.journal) is ∙ whole_acts put.played acts)
     (ap (λ (core : CoreView). core.games.rows) is ∙ rows) (same ∙ blocks) (ap (λ (core : CoreView). core.games.failed) is) (sym c.if-not-is_quiet.ensures)
