@@ -151,9 +151,6 @@ pub record IsQueuedFirst (commands : List Command) (core : CoreView) : Type 0 wh
 abbrev pub core_at : List CoreView → ℕ → CoreView
 core_at cores row = slice_index_or cores row (opened_core 0 0 0 [])
 
-abbrev pub AreQueuedFirst : List Hand → List CoreView → Type 0
-AreQueuedFirst hands cores = (row : ℕ) → row < length cores → IsQueuedFirst (commands_for row hands) (core_at cores row)
-
 -- one core for each row of the plan
 pub record RanApart (cap workers : ℕ) (plan : List GameRow) (hands : List Hand) (cores : List CoreView) : Type 0 where
   pub many : length cores ≡ length plan

@@ -4,7 +4,7 @@ use Rattle.std.specs.List.{filter_map}
 use Rattle.bs_board.specs.plans.Plan.{GameRow}
 use Rattle.bs_pool.specs.Ledger.{size}
 use Rattle.bs_sched.specs.declared.event.Event.{Event}
-use Rattle.bs_sched.specs.Assembly.{Hand, IsJob, IsOrderOf, IsQueuedFirst, core_at, hand_event}
+use Rattle.bs_sched.specs.Assembly.{IsJob, IsQueuedFirst}
 use Rattle.bs_sched.specs.Core.{CoreView}
 use Rattle.bs_workers.specs.declared.act.Act.{Act}
 use Rattle.bs_workers.specs.declared.act.Act.TheVariants as act
