@@ -7,6 +7,5 @@ pub mod Live
 pub mod LiveFaults
 pub mod Plain
 pub mod Routing
-pub mod Statuses
 pub mod Transcript
 pub mod inner
