@@ -30,4 +30,6 @@ mod runs;
 #[cfg(test)]
 mod stays;
 #[cfg(test)]
+mod stays_runs;
+#[cfg(test)]
 mod threads;
