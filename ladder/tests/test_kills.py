@@ -7,14 +7,17 @@ import random
 import resource
 import signal
 import subprocess
+import sys
 import time
-from collections.abc import Callable
+from collections.abc import Callable, Iterator
+from contextlib import contextmanager
 from dataclasses import dataclass
 from pathlib import Path
 from typing import Any
 
 import pytest
 from served import (
+    HERE,
     LADDER,
     SMALL,
     Served,
@@ -22,9 +25,11 @@ from served import (
     children_of,
     complaints,
     files_of,
+    free_port,
     is_running,
     run_ladder,
     serve_small,
+    serving,
     standings_without_times,
     start_play,
     write_config,
@@ -38,6 +43,7 @@ GAMES = 10
 STOP_SECONDS = 4.0  # for which a process is stopped
 SHORT_TIMEOUT = 1500  # milliseconds, less than that
 CLOCK = Path("/usr/lib/x86_64-linux-gnu/faketime/libfaketime.so.1")  # of Debian's libfaketime
+Process = subprocess.Popen[str]
 JUMPS = (3600, -86_400, 30 * 86_400)  # seconds from the true time
 
 
@@ -51,6 +57,10 @@ class Undisturbed:
     @property
     def size(self) -> int:
         return sum(map(len, self.files.values()))
+
+    @property
+    def moves(self) -> int:
+        return sum(row["moves"] for row in self.standings)
 
 
 def config_in(folder: Path, bots: Served, **members: Any) -> Path:
@@ -87,10 +97,10 @@ def wait_for(process: subprocess.Popen[str], is_so: Callable[[], bool]) -> None:
         time.sleep(0.001)
 
 
-def drawn_moments(kind: str, count: int, size: int) -> list[int]:
-    """Drawn sizes of command files at which to kill, from zero to nearly the total."""
+def drawn_moments(kind: str, count: int, total: int) -> list[int]:
+    """Drawn numbers of moves, or sizes of command files, from one to nearly the total."""
     draw = random.Random(f"{SEED} {kind}")
-    return [draw.randrange(size * 19 // 20) for _ in range(count)]
+    return [draw.randrange(1, total * 19 // 20) for _ in range(count)]
 
 
 def assert_same(folder: Path, expected: Undisturbed, program: Path) -> None:
@@ -101,36 +111,43 @@ def assert_same(folder: Path, expected: Undisturbed, program: Path) -> None:
     assert run_ladder("check", folder, "--program", program).returncode == 0
 
 
-def test_ladder_that_is_killed_goes_on(
-    program: Path, small_bots: Served, undisturbed: Undisturbed, kills: int, tmp_path: Path
-) -> None:
-    for at, moment in enumerate(drawn_moments("ladder", kills, undisturbed.size)):
-        folder = tmp_path / str(at)
-        folder.mkdir()
-        config = config_in(folder, small_bots)
+@contextmanager
+def killed(folder: Path, program: Path, move: int, *words: str) -> Iterator[tuple[Path, Process]]:
+    """A ladder that is killed before that move, or its host with the word --host; with its
+    configuration, whose bots are served within the context."""
+    folder.mkdir()
+    kills = [sys.executable, HERE / "killing.py", "--before", str(move), "--ladder", folder / "pid"]
+    with serving([*kills, *words], free_port()) as bots:
+        config = config_in(folder, bots)
         process = start_play(config, program)
-        wait_for(process, lambda: bytes_played(folder / "results") > moment)
-        hosts = children_of(process.pid)
-        process.kill()
-        process.communicate()
-        again = run_ladder("play", config, "--program", program)
+        (folder / "writing").write_text(str(process.pid))
+        (folder / "writing").rename(folder / "pid")
+        yield config, process
+
+
+def test_ladder_that_is_killed_goes_on(
+    program: Path, undisturbed: Undisturbed, kills: int, tmp_path: Path
+) -> None:
+    for at, move in enumerate(drawn_moments("ladder", kills, undisturbed.moves)):
+        folder = tmp_path / str(at)
+        with killed(folder, program, move) as (config, process):
+            process.communicate(timeout=LONGEST)
+            assert process.returncode == -signal.SIGKILL
+            again = run_ladder("play", config, "--program", program)
         assert (again.returncode, complaints(again.stderr)) == (0, "")
         assert again.stdout.startswith(f"ladder: {GAMES} of {GAMES} games are done, ")
         assert_same(folder / "results", undisturbed, program)
-        assert len(hosts) == 1 and not is_running(hosts[0]), "a host outlived its ladder"
+        _, host = (folder / "pid").read_text().split()
+        assert not is_running(int(host)), "a host outlived its ladder"
 
 
 def test_host_that_is_killed_is_followed_by_another(
-    program: Path, small_bots: Served, undisturbed: Undisturbed, kills: int, tmp_path: Path
+    program: Path, undisturbed: Undisturbed, kills: int, tmp_path: Path
 ) -> None:
-    for at, moment in enumerate(drawn_moments("host", kills, undisturbed.size)):
+    for at, move in enumerate(drawn_moments("host", kills, undisturbed.moves)):
         folder = tmp_path / str(at)
-        folder.mkdir()
-        process = start_play(config_in(folder, small_bots), program)
-        wait_for(process, lambda: bytes_played(folder / "results") > moment)
-        (host,) = children_of(process.pid)
-        os.kill(host, signal.SIGKILL)
-        out, error = process.communicate(timeout=LONGEST)
+        with killed(folder, program, move, "--host") as (_, process):
+            error = process.communicate(timeout=LONGEST)[1]
         assert process.returncode == 0, error
         told = complaints(error)
         assert told == "ladder: arena live ended with status -9; its games go on in another\n"
