@@ -116,8 +116,9 @@ def killed(folder: Path, program: Path, move: int, *words: str) -> Iterator[tupl
     """A ladder that is killed before that move, or its host with the word --host; with its
     configuration, whose bots are served within the context."""
     folder.mkdir()
-    kills = [sys.executable, HERE / "killing.py", "--before", str(move), "--ladder", folder / "pid"]
-    with serving([*kills, *words], free_port()) as bots:
+    bots_that_kill: list[str | Path] = [sys.executable, HERE / "killing.py", *words]
+    bots_that_kill += ["--before", str(move), "--ladder", folder / "pid"]
+    with serving(bots_that_kill, free_port()) as bots:
         config = config_in(folder, bots)
         process = start_play(config, program)
         (folder / "writing").write_text(str(process.pid))
