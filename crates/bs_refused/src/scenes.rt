@@ -1,5 +1,5 @@
 //! The scenes, each a test that is named for its calls.
-use crate::apart::{OpenAgain, ShareOut, TakeApart, play_apart};
+use crate::apart::{OpenAgain, TakeApart, play_apart};
 use crate::assembly::{IntoBlocks, PutTogether, play_from_blocks};
 use crate::blocks::{NewBlock, NewHeap, OpenPool, play_grow_index, play_reserve};
 use crate::boards::{
