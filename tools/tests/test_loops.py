@@ -78,7 +78,8 @@ def test_loops_with_a_bound(root: Path) -> None:
     ],
 )
 def test_loops_without_a_bound(root: Path, head: str) -> None:
-    text = f"const LONG: u64 = (1 << 24) + 1;\nfn count() {{\n    {head} {{\n        go();\n    }}\n}}\n"
+    loop = f"    {head} {{\n        go();\n    }}\n"
+    text = f"const LONG: u64 = (1 << 24) + 1;\nfn count() {{\n{loop}}}\n"
     (root / "crates/bs_host/src/count.rt").write_text(text)
     status, lines = loops(root)
     assert (status, lines[-1]) == (1, "5 loops, 1 allowed, 1 refused")

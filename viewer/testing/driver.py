@@ -31,7 +31,7 @@ def command() -> list[str]:
 
 
 def end_with_parent() -> None:
-    """Lets this process end when the tests are killed: a signal to their group does not reach it."""
+    """Lets this process end when the tests are killed, whose group's signals do not reach it."""
     ctypes.CDLL(None).prctl(DEATH_SIGNAL, signal.SIGTERM)
 
 

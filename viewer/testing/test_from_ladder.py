@@ -10,7 +10,10 @@ from testing.page import Page
 from testing.served import ROOT, Server
 
 FILE = "../examples/four_snakes.transcript"
-SAID = "return [...document.querySelectorAll('.answer')].map((it) => it.hidden ? null : it.textContent)"
+SAID = """
+const answers = [...document.querySelectorAll('.answer')];
+return answers.map((it) => it.hidden ? null : it.textContent);
+"""
 BACK = """
 const link = document.getElementById('back_link');
 return link.hidden ? null : link.href;
@@ -20,7 +23,7 @@ SNAKES = "return [...document.querySelectorAll('#snakes strong')].map((it) => it
 
 @pytest.fixture
 def answers() -> Iterator[Path]:
-    """A file of answers that the server has: of the first turn a move and a missed one, and junk."""
+    """A file of answers that the server has: of turn 1 a move and a missed one, and junk."""
     folder = ROOT / "viewer" / "out"
     folder.mkdir(exist_ok=True)
     path = folder / f"answers-{os.getpid()}.json"

@@ -40,8 +40,8 @@ class Asked:
         start = json.dumps(self.start) if self.start else ""
         status = str(self.status or "-")
         return (
-            f"{self.game}  {self.call or self.turn:>5}  {self.id or '-':12}  {status:>6}  {self.bytes:6}  "
-            f"{self.ms:5}  {self.cause or '-':9}  {start}"
+            f"{self.game}  {self.call or self.turn:>5}  {self.id or '-':12}  {status:>6}  "
+            f"{self.bytes:6}  {self.ms:5}  {self.cause or '-':9}  {start}"
         ).rstrip()
 
 
