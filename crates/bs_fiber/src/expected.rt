@@ -56,21 +56,9 @@ impl Expected<'_> {
     ghost use Rattle.std.specs.Prelude.{[]};
     ghost use Rattle.bs_fiber.specs.Expected.{IsLegalAsked, IsOf};
 
-    /// Returns the given handle to the command, or else a new one.
-    fn held(&self, handle: Option<SharedCommand>) -> Result<SharedCommand, AllocError>
-        requires { IfSome handle (λ handle. handle ≡ self.now.command.now) }
-        ensures { IfOk result (λ shared. shared ≡ self.now.command.now) }
-    {
-        match handle {
-            Some(handle) => Ok(handle),
-            None => self.command.share(),
-        }
-    }
-
-    /// Makes the input without parts: shares the records, and takes the handle or a new one.
-    fn new_input(&self, alloc: Global, handle: Option<SharedCommand>) -> Result<Input, AllocError>
-        requires handle { IfSome handle (λ handle. handle ≡ self.now.command.now) }
-        requires asked { IsLegalAsked self.now }
+    /// Makes the input without parts. Shares the newest record and the command.
+    fn new_input(&self, alloc: Global) -> Result<Input, AllocError>
+        requires { IsLegalAsked self.now }
         ensures expected { IfOk result (λ input. IsOf input self.now) }
         ensures parts { IfOk result (λ input. input.parts ≡ []) }
     {
@@ -83,7 +71,7 @@ impl Expected<'_> {
             kept: self.kept,
             last: share_record(self.last)?,
             asked: copy_record(alloc, self.asked)?,
-            command: self.held(handle)?,
+            command: self.command.share()?,
             parts: Parts::from_vec(Vec::new(alloc)),
         })
     }
@@ -92,16 +80,14 @@ impl Expected<'_> {
     fn new_contents<const CAP: usize>(
         &self,
         alloc: Global,
-        handle: Option<SharedCommand>,
     ) -> Result<Box<Contents<CAP>>, AllocError>
-        requires handle { IfSome handle (λ handle. handle ≡ self.now.command.now) }
-        requires asked { IsLegalAsked self.now }
+        requires { IsLegalAsked self.now }
         ensures expected { IfOk result (λ contents. IsOf contents.value.input self.now) }
         ensures parts { IfOk result (λ contents. contents.value.input.parts ≡ []) }
         ensures frames { IfOk result (λ contents. contents.value.frames.items ≡ []) }
     {
         let contents = Contents {
-            input: self.new_input(alloc, handle)?,
+            input: self.new_input(alloc)?,
             frames: Vec::new(alloc),
             out: None,
         };
@@ -109,14 +95,8 @@ impl Expected<'_> {
     }
 
     /// Overwrites a used input field by field, because moving one copies more than 100 bytes.
-    fn write_over(
-        &self,
-        alloc: Global,
-        handle: Option<SharedCommand>,
-        input: &mut Input,
-    ) -> Result<(), AllocError>
-        requires handle { IfSome handle (λ handle. handle ≡ self.now.command.now) }
-        requires asked { IsLegalAsked self.now }
+    fn write_over(&self, alloc: Global, input: &mut Input) -> Result<(), AllocError>
+        requires { IsLegalAsked self.now }
         ensures expected { OnOk result (IsOf input.new self.now) }
         ensures parts { OnOk result (input.new.parts ≡ []) }
     {
@@ -128,7 +108,7 @@ impl Expected<'_> {
         input.kept = self.kept;
         input.last = share_record(self.last)?;
         input.asked = copy_record(alloc, self.asked)?;
-        input.command.hold_by(handle, self.command)?;
+        input.command.hold(self.command)?;
         input.parts = Parts::from_vec(Vec::new(alloc));
         Ok(())
     }
@@ -136,38 +116,34 @@ impl Expected<'_> {
     fn contents_over<const CAP: usize>(
         &self,
         alloc: Global,
-        handle: Option<SharedCommand>,
         mut contents: Box<Contents<CAP>>,
     ) -> Result<Box<Contents<CAP>>, AllocError>
-        requires handle { IfSome handle (λ handle. handle ≡ self.now.command.now) }
-        requires asked { IsLegalAsked self.now }
+        requires { IsLegalAsked self.now }
         ensures expected { IfOk result (λ contents. IsOf contents.value.input self.now) }
         ensures parts { IfOk result (λ contents. contents.value.input.parts ≡ []) }
         ensures frames { IfOk result (λ contents. contents.value.frames.items ≡ []) }
     {
-        self.write_over(alloc, handle, &mut contents.input)?;
+        self.write_over(alloc, &mut contents.input)?;
         contents.frames.clear();
         Ok(contents)
     }
 
-    /// Makes the contents of a ticket, without parts and blocks: shares the newest record, copies
-    /// the one that the command names, and takes `handle` or a new handle to the command. Reuses
-    /// the memory of `spent`, if given; then only the copy of a named record is allocated.
+    /// Makes the contents of a ticket, without parts and blocks: shares the command and the newest
+    /// record, and copies the record that the command names. Reuses the memory of `spent`, if
+    /// given; then only the copy of a named record is allocated.
     pub fn to_contents<const CAP: usize>(
         &self,
         alloc: Global,
-        handle: Option<SharedCommand>,
         spent: Option<Box<Contents<CAP>>>,
     ) -> Result<Box<Contents<CAP>>, AllocError>
-        requires handle { IfSome handle (λ handle. handle ≡ self.now.command.now) }
-        requires asked { IsLegalAsked self.now }
+        requires { IsLegalAsked self.now }
         ensures expected { IfOk result (λ contents. IsOf contents.value.input self.now) }
         ensures parts { IfOk result (λ contents. contents.value.input.parts ≡ []) }
         ensures frames { IfOk result (λ contents. contents.value.frames.items ≡ []) }
     {
         match spent {
-            None => self.new_contents(alloc, handle),
-            Some(contents) => self.contents_over(alloc, handle, contents),
+            None => self.new_contents(alloc),
+            Some(contents) => self.contents_over(alloc, contents),
         }
     }
 }

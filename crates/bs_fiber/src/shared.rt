@@ -1,8 +1,10 @@
 //! A command that several owners share.
-ghost use Rattle.std.specs.Prelude.{◌≡◌, IfOk, IfSome, OnOk};
+ghost use Rattle.std.specs.Prelude.{◌≡◌, IfOk, OnOk};
+ghost use Rattle.bs_fiber.specs.Asking.{asked_turn};
 ghost use Rattle.bs_fiber.specs.Bare.{is_bare};
+ghost use Rattle.bs_game.specs.Reasons.{is_move};
 
-use bs_board::Command;
+use bs_board::{Command, TurnNumber};
 use std::alloc::{AllocError, Global};
 use std::marker::Model;
 use std::sync::Arc;
@@ -58,6 +60,28 @@ impl SharedCommand {
         }
     }
 
+    /// Whether the command is a move.
+    pub fn is_move(&self) -> bool
+        ensures { result ≡ is_move self.now }
+    {
+        matches!(self.get(), Command::Move(_))
+    }
+
+    /// The turn that a `turn` command names.
+    pub fn asked_turn(&self) -> Option<TurnNumber>
+        ensures { result ≡ asked_turn self.now }
+    {
+        match self.get() {
+            Command::New(_) => None,
+            Command::Move(_) => None,
+            Command::Show => None,
+            Command::Turn(at) => Some(*at),
+            Command::Free => None,
+            Command::End => None,
+            Command::Bad => None,
+        }
+    }
+
     /// Replaces this handle by one to that command. Keeps it if the two commands are equal and
     /// `is_bare` holds: comparing such commands takes less time than the atomic steps of making and
     /// dropping a handle.
@@ -69,24 +93,6 @@ impl SharedCommand {
         }
         *self = command.share()?;
         Ok(())
-    }
-
-    /// Replaces this handle by the given one, or else by a new one to that command.
-    pub(crate) fn hold_by(
-        &mut self,
-        handle: Option<SharedCommand>,
-        command: &SharedCommand,
-    ) -> Result<(), AllocError>
-        requires { IfSome handle (λ handle. handle ≡ command.now) }
-        ensures { OnOk result (self.new ≡ command.now) }
-    {
-        match handle {
-            Some(handle) => {
-                *self = handle;
-                Ok(())
-            }
-            None => self.hold(command),
-        }
     }
 
     /// The command.

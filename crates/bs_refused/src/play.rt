@@ -5,7 +5,7 @@ use crate::fault::Fault;
 use crate::values::plan_of;
 use bs_board::{Command, Direction, TurnNumber};
 use bs_counter::{Finish, PartKey, Parted};
-use bs_fiber::{Done, Ticket, work};
+use bs_fiber::{Done, SharedCommand, Ticket, work};
 use bs_samples::{new_of_three, straight_on, third_goes};
 use bs_sched::{Core, Taken};
 use std::alloc::Global;
@@ -37,11 +37,11 @@ pub fn hand(
     game: usize,
     command: &Command,
 ) -> Result<(), Fault> {
-    let copy = command.copy(alloc)?;
+    let copy = SharedCommand::new(alloc, command.copy(alloc)?)?;
     if game >= core.rows() || !core.is_open(game) {
         return Err(Fault::NoStay);
     }
-    Ok(core.hand(alloc, game, copy)?)
+    Ok(core.hand(game, copy)?)
 }
 
 /// A job that was taken and not run: its blocks are as it needs them.

@@ -16,8 +16,8 @@ use crate::event::Event;
 use crate::fiber::keeps_limits;
 use crate::games::Games;
 use crate::journal::Journal;
-use bs_board::{Board, Command, KeptBoard, Reply, Row};
-use bs_fiber::{Contents, Handles, QueuedCommand, SharedCommand};
+use bs_board::{Board, KeptBoard, Reply, Row};
+use bs_fiber::{Contents, SharedCommand};
 use std::alloc::{AllocError, Global};
 use std::marker::Model;
 
@@ -71,29 +71,19 @@ impl<const CAP: usize> Model for Core<CAP> {
 }
 
 impl<const CAP: usize> Core<CAP> {
-    /// Queues a command for the open stay of that row. After an error the core is unchanged.
-    pub fn hand(&mut self, alloc: Global, game: usize, command: Command) -> Result<(), AllocError>
+    /// Queues a command for the open stay of that row. The stay keeps the handle, and the journal
+    /// another one. After an error the core is unchanged.
+    pub fn hand(&mut self, game: usize, command: SharedCommand) -> Result<(), AllocError>
         requires game { game < length self.old.games.lanes }
         requires open { (lane_of self.old.games.lanes game).is_open ≡ true }
         ensures ok { OnOk result (self.new ≡ core_after CAP self.old (event.Hand game command)) }
         ensures err { OnErr result (self.new ≡ self.old) }
     {
-        self.hand_handles(game, Handles::new(&SharedCommand::new(alloc, command)?)?)
-    }
-
-    /// Queues a shared command without copying it: the core and its journal keep the handles, which
-    /// the caller made before it locked the core.
-    pub fn hand_handles(&mut self, game: usize, handles: Handles) -> Result<(), AllocError>
-        requires game { game < length self.old.games.lanes }
-        requires open { (lane_of self.old.games.lanes game).is_open ≡ true }
-        ensures ok { OnOk result (self.new ≡ core_after CAP self.old (event.Hand game handles)) }
-        ensures err { OnErr result (self.new ≡ self.old) }
-    {
-        keeps_limits(handles.get());
-        let (queued, noted) = handles.into_parts();
+        keeps_limits(command.get());
+        let noted = command.share()?;
         let row = self.games.row_number(game);
         self.journal.reserve(self.out, 1)?;
-        self.games.hand(game, queued)?;
+        self.games.hand(game, command)?;
         self.journal.note(Event::Hand(row, noted));
         Ok(())
     }
@@ -165,7 +155,7 @@ impl<const CAP: usize> Core<CAP> {
     }
 
     /// The commands that were taken, in order.
-    pub fn taken(&self, game: usize) -> &[QueuedCommand]
+    pub fn taken(&self, game: usize) -> &[SharedCommand]
         requires { game < length self.now.games.lanes }
         ensures { result.now ≡ (lane_of self.now.games.lanes game).taken }
     {

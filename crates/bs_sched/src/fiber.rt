@@ -12,7 +12,7 @@ ghost use Rattle.bs_sched.specs.inner.Turns.{AreMoveParts};
 use crate::stage::Stage;
 use bs_board::limits::{LAST_TURN, MOST_QUOTA};
 use bs_board::{Command, KeptBoard, Record, Reply, Row};
-use bs_fiber::{JobKind, QueuedCommand, SharedCommand};
+use bs_fiber::{JobKind, SharedCommand};
 use bs_game::{Answer, Effect};
 use std::alloc::{AllocError, Global};
 use std::marker::Model;
@@ -23,7 +23,7 @@ pub(crate) struct Fiber {
     /// The charge of the records when the stay left, if it has.
     left: Option<u32>,
     /// All queued commands. The first `begun` were taken.
-    commands: Vec<QueuedCommand>,
+    commands: Vec<SharedCommand>,
     begun: usize,
     replies: Vec<Reply>,
     stage: Stage,
@@ -189,12 +189,12 @@ impl Fiber {
     }
 
     /// Queues a command.
-    pub(crate) fn hand(&mut self, command: QueuedCommand) -> Result<(), AllocError>
+    pub(crate) fn hand(&mut self, command: SharedCommand) -> Result<(), AllocError>
         requires { self.old.is_open ≡ true }
         ensures ok { OnOk result (self.new ≡ with_waiting command self.old) }
         ensures err { OnErr result (self.new ≡ self.old) }
     {
-        keeps_limits(command.shared().get());
+        keeps_limits(command.get());
         self.commands.push(command)?;
         Ok(())
     }
@@ -260,31 +260,22 @@ impl Fiber {
     }
 
     /// The commands that were taken.
-    pub(crate) fn taken(&self) -> &[QueuedCommand]
+    pub(crate) fn taken(&self) -> &[SharedCommand]
         ensures { result.now ≡ self.now.taken }
     {
         &self.commands.as_slice()[..self.begun]
     }
 
     /// The command that is taken next.
-    pub(crate) fn next(&self) -> &QueuedCommand
+    pub(crate) fn next(&self) -> &SharedCommand
         requires { 0 < length self.now.waiting }
         ensures { result.now ≡ lane_command (with_taken 0 kind.Begin 0 self.now) }
     {
         &self.commands[self.begun]
     }
 
-    /// Takes the handle that was made for the Begin of the next command, if it is still there.
-    pub(crate) fn take_handle(&mut self) -> Option<SharedCommand>
-        requires { 0 < length self.old.waiting }
-        ensures same { self.new ≡ self.old }
-        ensures handle { IfSome result (λ handle. handle ≡ lane_command (with_taken 0 kind.Begin 0 self.old)) }
-    {
-        self.commands[self.begun].take_handle()
-    }
-
     /// The command that is being answered.
-    pub(crate) fn command(&self) -> &QueuedCommand
+    pub(crate) fn command(&self) -> &SharedCommand
         requires { is_idle self.now.stage ≡ false }
         ensures { result.now ≡ lane_command self.now }
     {

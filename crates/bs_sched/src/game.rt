@@ -39,7 +39,7 @@ use crate::stage::MOST_PARTS;
 use bs_board::{Board, KeptBoard, Reply, Row, TurnNumber};
 use bs_counter::{PartKey, Tally, TallyName};
 use bs_fiber::{
-    Contents, Done, Expected, JobKind, JobName, Moved, Out, Parts, QueuedCommand, Ticket,
+    Contents, Done, Expected, JobKind, JobName, Moved, Out, Parts, SharedCommand, Ticket,
 };
 use bs_game::{Answer, Effect, place_of_turn};
 use bs_heap::TagHeap;
@@ -72,7 +72,7 @@ impl<const CAP: usize> Model for Game<CAP> {
 }
 
 /// Opens a tally and returns its name and keys if the next command is a move, a game runs and the
-/// game is not over; else returns no keys. Reads what is kept beside the command, not the command.
+/// game is not over; else returns no keys.
 fn open_keys<const CAP: usize>(
     alloc: Global,
     fiber: &Fiber,
@@ -159,7 +159,7 @@ impl<const CAP: usize> Game<CAP> {
     }
 
     /// Queues a command.
-    pub(crate) fn hand(&mut self, command: QueuedCommand) -> Result<(), AllocError>
+    pub(crate) fn hand(&mut self, command: SharedCommand) -> Result<(), AllocError>
         requires { self.old.lane.is_open ≡ true }
         ensures ok { OnOk result (self.new ≡ handed_game command self.old) }
         ensures err { OnErr result (self.new ≡ self.old) }
@@ -182,7 +182,7 @@ impl<const CAP: usize> Game<CAP> {
     }
 
     /// The commands that were taken.
-    pub(crate) fn taken(&self) -> &[QueuedCommand]
+    pub(crate) fn taken(&self) -> &[SharedCommand]
         ensures { result.now ≡ self.now.lane.taken }
     {
         self.fiber.taken()
@@ -333,7 +333,7 @@ impl<const CAP: usize> Game<CAP> {
     /// Makes the input that a job of that command is expected to have.
     fn expected<'a>(
         &'a self,
-        command: &'a QueuedCommand,
+        command: &'a SharedCommand,
         seq: u64,
         worker: u32,
         job: JobName,
@@ -352,7 +352,7 @@ impl<const CAP: usize> Game<CAP> {
             kept: self.count(),
             last: self.fiber.last_record(),
             asked: self.asked_record(command.asked_turn()),
-            command: command.shared(),
+            command,
         }
     }
 
@@ -404,9 +404,8 @@ impl<const CAP: usize> Game<CAP> {
         ensures err { OnErr result (self.new ≡ self.old) }
     {
         let (tally, keys) = open_keys(alloc, &self.fiber)?;
-        let handle = self.fiber.take_handle();
         let expected = self.expected(self.fiber.next(), self.fiber.next_seq(), worker, job);
-        let contents = expected.to_contents(alloc, handle, spent)?;
+        let contents = expected.to_contents(alloc, spent)?;
         self.heap.grow_index()?;
         self.fiber.begin(worker as usize)?;
         self.parts.begin(tally, keys);
@@ -428,7 +427,7 @@ impl<const CAP: usize> Game<CAP> {
         ensures frames { IfOk result (λ contents. contents.value.frames.items ≡ []) }
     {
         let expected = self.expected(self.fiber.command(), self.fiber.seq(), worker, job);
-        expected.to_contents(alloc, None, spent)
+        expected.to_contents(alloc, spent)
     }
 
     /// Takes a part for the worker, with an empty frame block and its key. The new ticket reuses

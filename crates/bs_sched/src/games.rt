@@ -45,7 +45,7 @@ use crate::plan_blocks::{release_row, reserve_row, reserve_rows};
 use bs_board::limits::MOST_ROWS;
 use bs_board::{Plan, Row, Rows};
 use bs_counter::PartKey;
-use bs_fiber::{Contents, Done, JobKind, JobName, Out, QueuedCommand, Ticket};
+use bs_fiber::{Contents, Done, JobKind, JobName, Out, SharedCommand, Ticket};
 use bs_pool::{Owned, Pool};
 use bs_registry::{Listed, MOST_STAYS, Refusal, Registry, blocks_of, blocks_of_all, open_rows};
 use std::alloc::{AllocError, Global};
@@ -249,7 +249,7 @@ impl<const CAP: usize> Games<CAP> {
     }
 
     /// Queues a command for that stay.
-    pub(crate) fn hand(&mut self, game: usize, command: QueuedCommand) -> Result<(), AllocError>
+    pub(crate) fn hand(&mut self, game: usize, command: SharedCommand) -> Result<(), AllocError>
         requires game { game < length self.old.lanes }
         requires open { (lane_of self.old.lanes game).is_open ≡ true }
         ensures ok { OnOk result (self.new ≡ after CAP self.old (event.Hand game command)) }

@@ -1,5 +1,4 @@
 //! The acts of a run.
-use bs_board::Command;
 use bs_fiber::SharedCommand;
 use bs_sched::SharedRow;
 
@@ -27,7 +26,7 @@ pub(crate) fn count_admitted(acts: &[Act]) -> usize {
 /// of their game.
 fn is_move(act: &Act) -> bool {
     match act {
-        Act::Hand(_, command) => matches!(command.get(), Command::Move(_)),
+        Act::Hand(_, command) => command.is_move(),
         Act::Admit(_) | Act::Leave(_) => false,
     }
 }

@@ -21,7 +21,7 @@ use crate::act::Act;
 use crate::fault::Run;
 use crate::gate::Gate;
 use bs_board::Row;
-use bs_fiber::{Handles, JobKind, JobName};
+use bs_fiber::{JobKind, JobName, SharedCommand};
 use bs_sched::{Admit, Core, Leave, NextCommand};
 use std::alloc::Global;
 
@@ -144,7 +144,7 @@ impl<const CAP: usize, G: Gate> Alone<'_, CAP, G> {
     }
 
     /// Queues the command for the game of that row. `Broken` if the stay is not open.
-    fn hand(&mut self, stay: usize, command: Handles) -> Result<(), Run>
+    fn hand(&mut self, stay: usize, command: SharedCommand) -> Result<(), Run>
         ensures made { OnOk result (Makes (act.Hand stay command ∷ []) self.old.core self.new.core) }
         ensures journal { OnOk result (self.new.core.journal ≡ self.old.core.journal ++ event.Hand stay command ∷ []) }
         ensures worker { self.new.worker ≡ self.old.worker }
@@ -155,7 +155,7 @@ impl<const CAP: usize, G: Gate> Alone<'_, CAP, G> {
         if stay >= self.core.rows() || !self.core.is_open(stay) {
             return Err(Run::Broken);
         }
-        Ok(self.core.hand_handles(stay, command)?)
+        Ok(self.core.hand(stay, command)?)
     }
 
     /// Admits a game. `Broken` if the core refuses it for a reason other than memory.
@@ -211,7 +211,7 @@ impl<const CAP: usize, G: Gate> Alone<'_, CAP, G> {
         match next {
             Act::Hand(stay, command) => {
                 self.keeps_acceptable(next);
-                self.hand(*stay, Handles::new(command)?)
+                self.hand(*stay, command.share()?)
             }
             Act::Admit(row) => {
                 self.keeps_acceptable(next);
@@ -236,7 +236,7 @@ impl<const CAP: usize, G: Gate> Alone<'_, CAP, G> {
                 if *stay != row {
                     return Ok(());
                 }
-                self.hand(0, Handles::new(command)?)
+                self.hand(0, command.share()?)
             }
             Act::Admit(_) => Ok(()),
             Act::Leave(_) => Ok(()),

@@ -6,7 +6,7 @@ use crate::player::{
 use arrayvec::ArrayVec;
 use bs_board::{Command, Direction, Refusal, Reply, TurnNumber, Word};
 use bs_counter::{PartKey, Parted};
-use bs_fiber::{Done, Handles, JobKind, JobName, SharedCommand, Ticket, work};
+use bs_fiber::{Done, JobKind, JobName, SharedCommand, Ticket, work};
 use bs_samples::{holds, new_of_three, new_solo, plan_of, same, straight_on, third_goes};
 use bs_sched::{Core, Counts, Open, Taken, blocks_of, blocks_of_all};
 use std::alloc::Global;
@@ -483,18 +483,18 @@ fn quota_of_two_records(rt: HostRuntime) -> Result<(), Fail> {
     check_over_quota(alloc, &core)
 }
 
-/// Queues a shared command by handles that were made before.
-fn hand_handles(core: &mut Core<CAP>, handles: Handles) -> Result<(), Fail> {
+/// Queues the shared command for the only game.
+fn hand_shared(core: &mut Core<CAP>, command: &SharedCommand) -> Result<(), Fail> {
     holds("a game", core.rows() == 1)?;
     holds("an open game", core.is_open(0))?;
-    Ok(core.hand_handles(0, handles)?)
+    Ok(core.hand(0, command.share()?)?)
 }
 
 /// Opens a core of that game in which the same command was queued twice.
 fn core_with_shared(alloc: Global, name: &str, shared: &SharedCommand) -> Result<Core<CAP>, Fail> {
     let mut core = core_of_one(alloc, name, 4096)?;
-    hand_handles(&mut core, Handles::new(shared)?)?;
-    hand_handles(&mut core, Handles::new(shared)?)?;
+    hand_shared(&mut core, shared)?;
+    hand_shared(&mut core, shared)?;
     Ok(core)
 }
 

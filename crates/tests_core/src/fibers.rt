@@ -7,8 +7,7 @@ use bs_board::{
     Board, Command, Direction, Mode, Point, Record, Reply, TurnNumber, Word, encode, is_legal,
 };
 use bs_fiber::{
-    Contents, Done, Expected, Handles, Input, JobKind, JobName, Moved, Out, Piece, QueuedCommand,
-    SharedCommand, Ticket,
+    Contents, Done, Expected, Input, JobKind, JobName, Moved, Out, Piece, SharedCommand, Ticket,
 };
 use bs_game::{Answer, Effect};
 use bs_pool::Owned;
@@ -165,7 +164,7 @@ fn contents_of_show(
         asked: Some(other.as_slice()),
         ..expected(one, &show)
     };
-    let contents = shown.to_contents::<CAP>(alloc, None, None)?;
+    let contents = shown.to_contents::<CAP>(alloc, None)?;
     check_input(&contents.input, 2, one.as_slice(), Some(other.as_slice()))?;
     Ok(contents)
 }
@@ -184,7 +183,7 @@ fn check_end_over(alloc: Global, last: &Record, spent: Box<Contents<CAP>>) -> Re
         asked: None,
         command: &end,
     };
-    let contents = later.to_contents(alloc, Some(end.share()?), Some(spent))?;
+    let contents = later.to_contents(alloc, Some(spent))?;
     check_input(&contents.input, 3, last.as_slice(), None)?;
     holds("end", matches!(contents.input.command.get(), Command::End))
 }
@@ -202,51 +201,25 @@ fn an_expected_input_is_made(rt: HostRuntime) -> Result<(), Fail> {
     check_end_over(alloc, &other, contents)
 }
 
-/// A queued move has a handle for its Begin, once. It stays a move after that.
-#[test]
-fn a_handed_move_has_a_handle(rt: HostRuntime) -> Result<(), Fail> {
-    let alloc = rt.alloc();
-    let moved = SharedCommand::new(alloc, third_goes_down(alloc)?)?;
-    let mut queued = QueuedCommand::new(&moved)?;
-    check_handed(&queued, moved.get(), None, true)?;
-    let handle = queued.take_handle().ok_or("a handle")?;
-    check_shares(&handle, moved.get())?;
-    check_no_handle(&mut queued)?;
-    holds("still a move", queued.is_move())
-}
-
-/// Checks that it is a handle to the command.
-fn check_shares(handle: &SharedCommand, command: &Command) -> Result<(), Fail> {
-    holds("a handle to it", handle.get().is_same(command))
-}
-
-/// Checks the queued command, the turn that it asks for, and whether it is a move.
-fn check_handed(
-    queued: &QueuedCommand,
-    command: &Command,
-    asked_turn: Option<TurnNumber>,
+/// Checks whether the command is a move, and the turn that it names.
+fn check_kind(
+    alloc: Global,
+    command: Command,
     is_move: bool,
+    asked_turn: Option<TurnNumber>,
 ) -> Result<(), Fail> {
-    same("turn asked for", queued.asked_turn(), asked_turn)?;
-    same("a move", queued.is_move(), is_move)?;
-    check_shares(queued.shared(), command)
+    let shared = SharedCommand::new(alloc, command)?;
+    same("a move", shared.is_move(), is_move)?;
+    same("turn that it names", shared.asked_turn(), asked_turn)
 }
 
-fn check_no_handle(queued: &mut QueuedCommand) -> Result<(), Fail> {
-    holds("no handle", queued.take_handle().is_none())
-}
-
-/// A queued `turn` has the turn that it names, and no handle.
 #[test]
-fn a_handed_turn_has_its_number(rt: HostRuntime) -> Result<(), Fail> {
+fn only_a_turn_names_a_turn(rt: HostRuntime) -> Result<(), Fail> {
     let alloc = rt.alloc();
     let at = TurnNumber::new(7).ok_or("a turn")?;
-    let turn = SharedCommand::new(alloc, Command::Turn(at))?;
-    let (mut queued, noted) = Handles::new(&turn)?.into_parts();
-    check_handed(&queued, turn.get(), Some(at), false)?;
-    check_no_handle(&mut queued)?;
-    check_shares(queued.shared(), turn.get())?;
-    check_shares(&noted, turn.get())
+    check_kind(alloc, third_goes_down(alloc)?, true, None)?;
+    check_kind(alloc, Command::Turn(at), false, Some(at))?;
+    check_kind(alloc, Command::Show, false, None)
 }
 
 #[test]

@@ -4,7 +4,7 @@ ghost use Rattle.bs_fiber.specs.Tickets.{IsFresh};
 use arrayvec::ArrayVec;
 use bs_board::Command;
 use bs_counter::{Finish, PartKey, Parted};
-use bs_fiber::{Done, Ticket, work};
+use bs_fiber::{Done, SharedCommand, Ticket, work};
 use bs_samples::{holds, plan_of};
 use bs_sched::{Core, Taken};
 use std::alloc::Global;
@@ -34,7 +34,7 @@ pub(crate) fn hand(
 ) -> Result<(), Fail> {
     holds("the game is there", game < core.rows())?;
     holds("the game is open", core.is_open(game))?;
-    Ok(core.hand(alloc, game, command)?)
+    Ok(core.hand(game, SharedCommand::new(alloc, command)?)?)
 }
 
 /// Takes a job as that worker.

@@ -16,8 +16,7 @@ invariant_of-self-2 g c =
     let ready = subst (λ (k : JobKind). is_ready (lane_at inside) k p ≡ true) c.requires.kind
     (subst (λ (v : GameView). is_ready v.lane c.args.job.kind p ≡ true) (sym c.self.view_is) c.requires.ready) in
     let stands = open_ready g.row.CAP inside kind.Begin p c.self.invariant ready in
-    let lane : x ≡ with_taken c.args.worker kind.Begin p inside.fiber
-    = c.in_ok-begin.ensures.ok ∙ ap (with_taken c.args.worker kind.Begin 0) c.take_handle-handle.ensures.same in
+    let lane : x ≡ with_taken c.args.worker kind.Begin p inside.fiber = c.in_ok-begin.ensures.ok in
     let ps = c.begin-2.new.self in
     kept_game g.row.CAP inside x c.grow_index.new.self ps c.self.invariant stands
     (taken_boards inside.fiber x c.args.worker kind.Begin p lane) c.grow_index.ensures.heap (λ may. c.in_ok-grow_index.ensures.ok)

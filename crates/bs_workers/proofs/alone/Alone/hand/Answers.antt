@@ -5,4 +5,4 @@ use Rattle.bs_workers.proofs.alone.Alone.hand.Goals as goal
 
 pub returns-clause-made : goal.returns-clause-made
 returns-clause-made g c =
-    makes_event g.row.CAP c.args.self.now.core c.hand_handles.new.self (act.Hand c.args.stay c.args.command) c.in_ok-hand_handles.ensures.ok
+    makes_event g.row.CAP c.args.self.now.core c.hand.new.self (act.Hand c.args.stay c.args.command) c.in_ok-hand.ensures.ok
