@@ -12,7 +12,6 @@ ghost use Rattle.bs_sched.specs.declared.event.Event.TheVariants as event;
 use crate::cores::Core;
 use crate::event::Event;
 use crate::journal::Journal;
-use crate::last_games::note_game;
 use crate::taking::Found;
 use bs_fiber::{JobKind, JobName};
 use std::alloc::{AllocError, Global};
@@ -170,7 +169,7 @@ impl<const CAP: usize> Core<CAP> {
         self.journal.reserve(self.out, 4 + 2 * parts)?;
         self.games.answer_here(alloc, game, parts)?;
         note_answer(&mut self.journal, number, row, parts);
-        note_game(&mut self.last_games, worker, game);
+        self.cursor = game;
         Ok(())
     }
 }

@@ -52,8 +52,9 @@ pub struct Core<const CAP: usize> {
     pub(crate) out: usize,
     /// For each worker, whether it has a Begin or a Join out.
     pub(crate) busy: Vec<bool>,
-    /// The game of each worker's last job.
-    pub(crate) last_games: Vec<usize>,
+    /// The row of the last job. The search for a ready job begins there and goes round, so that
+    /// many takes do not each go over all open stays.
+    pub(crate) cursor: usize,
     /// The contents of completed tickets, whose memory later tickets reuse. At most as many as it
     /// has room for.
     pub(crate) spares: Vec<Box<Contents<CAP>>>,

@@ -13,7 +13,6 @@ mod game;
 mod games;
 mod gathering;
 mod journal;
-mod last_games;
 mod law;
 mod lone_stay;
 mod merging;

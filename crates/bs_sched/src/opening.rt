@@ -13,7 +13,6 @@ use crate::busy::nobody_busy;
 use crate::cores::{Core, LEAST_CAPACITY, MOST_SPARES, MOST_WORKERS};
 use crate::games::Games;
 use crate::journal::Journal;
-use crate::last_games::spread_games;
 use bs_board::{Plan, Rows};
 use bs_pool::Pool;
 use bs_registry::blocks_of_all;
@@ -84,13 +83,12 @@ impl<const CAP: usize> Core<CAP> {
         ensures { IfOk result (λ core. core ≡ core_of games.entry journal.events) }
     {
         let workers = games.workers();
-        let last_games = spread_games(alloc, workers, games.count_rows())?;
         Ok(Core {
             games,
             journal,
             out: 0,
             busy: nobody_busy(alloc, workers)?,
-            last_games,
+            cursor: 0,
             spares: Vec::with_capacity(alloc, MOST_SPARES)?,
         })
     }

@@ -12,7 +12,6 @@ ghost use Rattle.bs_sched.specs.declared.event.Event.TheVariants as event;
 use crate::busy::{is_marked, mark};
 use crate::cores::Core;
 use crate::event::Event;
-use crate::last_games::{last_game, note_game};
 use bs_counter::PartKey;
 use bs_fiber::{Done, JobName, Ticket};
 use std::alloc::{AllocError, Global};
@@ -58,8 +57,8 @@ impl<const CAP: usize> Core<CAP> {
         let _out = self.out;
     }
 
-    /// Finds a job for the worker: in its last game while that has a ready job, because that game's
-    /// records lie in the processor's cache; then in the later games, then in the earlier ones.
+    /// Finds a job for the worker: in the game of the last job, while that has a ready job; then in
+    /// the later games, then in the earlier ones.
     pub(crate) fn find(&self, worker: usize) -> Found
         requires { worker ≤ self.now.games.workers }
         ensures { FindsJob worker self.now.games.lanes result }
@@ -67,10 +66,7 @@ impl<const CAP: usize> Core<CAP> {
         if self.is_busy(worker) {
             return Found::Busy;
         }
-        match self
-            .games
-            .find(last_game(self.last_games.as_slice(), worker))
-        {
+        match self.games.find(self.cursor) {
             None => {
                 self.has_none();
                 Found::Nothing
@@ -102,7 +98,7 @@ impl<const CAP: usize> Core<CAP> {
         self.journal.note(Event::Take(number, job));
         self.out += 1;
         mark(&mut self.busy, worker, job.kind, true);
-        note_game(&mut self.last_games, worker, job.game as usize);
+        self.cursor = job.game as usize;
         Ok(taken)
     }
 
