@@ -3,7 +3,7 @@ ghost use Rattle.std.specs.Prelude.{◌≡◌, false, true};
 
 use bs_fiber::JobName;
 
-/// Consulted before each job, by the thread that runs it, with no lock held.
+/// Consulted before each job, by the thread that runs it.
 pub trait Gate: Sync {
     /// Whether the gate may refuse a job. By default nothing is known: it may.
     ghost may_refuse: { Self → Type 0 } = { λ _. Unit {0} };
