@@ -1,5 +1,5 @@
 -- Records that are changed one after the other, each in its slot.
-use Rattle.std.proofs.Common.{◌≡◌, ◌≢◌, ℕ, ◌+◌, ◌-◌, ◌*◌, ◌/◌, ◌%◌, ◌<◌, ◌≤◌, max, Bool, true, false, cond, List, [], ◌∷◌, ◌++◌, length, take, drop, set, get_or, count_by, refl, subst, sym, ap, ◌∙◌, arith, inl, inr, length-append, length-drop, length-set, length-take-le}
+use Rattle.std.proofs.Common.{◌≡◌, ◌≢◌, ℕ, ◌+◌, ◌-◌, ◌*◌, ◌/◌, ◌%◌, ◌<◌, ◌≤◌, max, Bool, true, false, cond, List, [], ◌∷◌, ◌++◌, length, take, drop, set, get_or, count_by, subst, sym, ap, ◌∙◌, arith, inl, inr, length-append, length-drop, length-set, length-take-le}
 use Rattle.std.specs.Prelude.{◌==◌}
 use Rattle.std.specs.List.{between}
 use Rattle.std.proofs.lemmas.Bool.{cases_eq, cases_lt}
@@ -86,21 +86,6 @@ pub record SlotsSoFar (P : ℕ → List ℕ → List ℕ → ℕ → ℕ → ℕ
   pub other_lengths : drop slots lengths ≡ drop slots lengths0
   pub other_statuses : drop slots statuses ≡ drop slots statuses0
   pub count : played ≡ count_by (λ status. status == 0) (take i statuses)
-
-pub none_changed : (P : ℕ → List ℕ → List ℕ → ℕ → ℕ → ℕ → Type 0) (each slots : ℕ) (records lengths statuses : List ℕ)
-    → SlotsSoFar P each slots 0 records records lengths lengths statuses statuses 0
-none_changed P each slots records lengths statuses = record {
-  records_long = refl;
-  lengths_long = refl;
-  statuses_long = refl;
-  done = λ k none. absurd (omega arith);
-  rest = λ k high. refl;
-  rest_lengths = λ k high. refl;
-  behind = refl;
-  other_lengths = refl;
-  other_statuses = refl;
-  count = refl;
-}
 
 counted : (result : Bool) (i n n' one : ℕ) → n ≤ i → i + 1 < 18446744073709551616 → one ≡ bool_byte result → n' ≡ (n + one) % 18446744073709551616
     → n' ≡ n + cond result 1 0

@@ -22,9 +22,6 @@ use Rattle.bs_batch.proofs.SeatWrites.{food_at_most}
 abbrev pub WrittenSoFar : ℕ → List Point → List ℕ → Type 0
 WrittenSoFar i cells room = (width height : ℕ) → AreNear width height cells → take i room ≡ numbers_of (take i cells)
 
-pub none_written : (cells : List Point) (room : List ℕ) → WrittenSoFar 0 cells room
-none_written cells room width height near = refl
-
 pub one_written : (i number : ℕ) (cells : List Point) (room : List ℕ) → i < length cells → i < length room → NumbersCell (get_or cells i origin) number
     → WrittenSoFar i cells room → WrittenSoFar (i + 1) cells (set room i number)
 one_written i number cells room within fits is so_far width height near =
@@ -48,12 +45,6 @@ PartsSoFar body i old now =
     (width height : ℕ) (others : Point → ℕ) (food parts : List Point) → AreNear width height parts → body ≡ numbers_of parts
     → ((p : Point) → others p ≤ MOST_PARTS) → HasBytes width height (λ p. others p + food_byte food p) old
     → StoodParts width height others food i parts now
-
-pub none_added : (body old : List ℕ) → PartsSoFar body 0 old old
-none_added body old width height others food parts near is few has = record {
-  few = λ p. let f = few p in omega arith;
-  bytes = same_bytes width height (λ p. others p + food_byte food p) (λ p. others p + 0 + food_byte food p) old (λ p _. omega arith) has;
-}
 
 fewer_front : (index : ℕ) (parts : List Point) (p : Point) → count_by (is_same_cell p) (take index parts) ≤ count_by (is_same_cell p) parts
 fewer_front zero parts p = omega arith

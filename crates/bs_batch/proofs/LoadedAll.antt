@@ -152,9 +152,6 @@ abbrev pub FoodAdded : List Point → ℕ → List ℕ → List ℕ → Type 0
 FoodAdded cells i old now =
     (width height : ℕ) → AreNear width height cells → HasBytes width height (λ _. 0) old → HasBytes width height (food_byte (take i cells)) now
 
-pub no_food_added : (cells : List Point) (plane : List ℕ) → FoodAdded cells 0 plane plane
-no_food_added cells plane width height near has = has
-
 marked : (there : Bool) → cond {A = ℕ} there 128 0 % 128 + 128 ≡ 128
 marked true = refl
 marked false = refl

@@ -20,13 +20,6 @@ there list number each fits = let t : leb (number * each + each) (length list) �
 not_there : (list : List ℕ) (number each : ℕ) → length list < number * each + each → piece_of list number each ≡ []
 not_there list number each short = let f : leb (number * each + each) (length list) ≡ false = search arith in rw f refl
 
-pub none_shown : (shows : Board → Type 0) (number each : ℕ) (into : List ℕ) → ((b : Board) → shows b → number * each + each ≤ length into → ⊥) → PieceShown shows number each into into
-none_shown shows number each into never = record {
-  long = refl;
-  own = λ b is room. absurd (never b is room);
-  others = λ k apart. refl;
-}
-
 module _ (number each from k : ℕ) (into piece : List ℕ) (at : from ≡ number * each) (row : k ≡ each) (fits : from + each ≤ length into) (kept : length piece ≡ length (mid_of from k into)) where
   abbrev new : List ℕ
   new = put_mid from k into piece

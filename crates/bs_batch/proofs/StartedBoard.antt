@@ -1,5 +1,5 @@
 -- The first board of a game, put together.
-use Rattle.std.proofs.Common.{◌≡◌, ℕ, ◌+◌, ◌*◌, ◌<◌, ◌≤◌, min, Bool, true, false, List, [], ◌∷◌, length, take, map, get_or, replicate, refl, subst, sym, ap, ◌∙◌, arith, length-take}
+use Rattle.std.proofs.Common.{◌≡◌, ℕ, ◌+◌, ◌*◌, ◌<◌, ◌≤◌, min, Bool, true, List, [], ◌∷◌, length, take, map, get_or, replicate, refl, subst, sym, ap, ◌∙◌, arith, length-take}
 use Rattle.std.proofs.lemmas.List.{get_or-map, length-map, take_all}
 use Rattle.std.proofs.lemmas.List.Sums.{sum_by-cons}
 use Rattle.bs_board.specs.declared.boards.board.Mode.{Mode}
@@ -53,22 +53,6 @@ dropped_food list n head head' plane plane' few two drops m width height others 
       bytes = subst (λ (fs : List Point). HasBytes width height (λ p. others p + food_byte fs p) plane') (sym none)
           (same_bytes width height others (λ p. others p + food_byte [] p) plane' (λ p _. omega arith) dropped.0);
       rest = dropped.1 ∙ ap (λ (k : ℕ). record head { foods = k }) (sym zero_food);
-    }
-
--- all cells are placed
-pub snakes_refused : (starts cells : List Cell) (head head' : Head) (bodies0 bodies list plane0 plane : List ℕ) (one : Bool) → one ≡ false → length bodies ≡ length bodies0
-    → PlacesSnakes starts head bodies0 plane0 head' bodies plane one → PlacesAll starts cells head plane0 head' list plane bodies false
-snakes_refused starts cells head head' bodies0 bodies list plane0 plane one f long places can none eight has =
-    let enough = can.bodies in
-    let n = length-map starts point_of in
-    let placed = places (omega arith) eight has in
-    record {
-      fits = (λ t. absurd cc, λ fits. let holds = placed.fits.1 (n ∙ fits.seats, fits.snakes) in absurd cc);
-      snakes = λ t. absurd cc;
-      food = λ t. absurd cc;
-      bytes = λ t. absurd cc;
-      rest = λ t. absurd cc;
-      eight = λ t. absurd cc;
     }
 
 module _ (starts cells : List Cell) (head head1 head2 : Head) (bodies0 bodies list plane0 plane1 plane2 : List ℕ) (one two : Bool) (holds : one ≡ true) (long : length bodies ≡ length bodies0)

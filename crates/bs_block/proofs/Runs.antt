@@ -1,5 +1,5 @@
 -- Lemmas on runs of places, and on the bytes that they hold.
-use Rattle.std.proofs.Common.{◌≡◌, ℕ, ◌+◌, ◌-◌, ◌≤◌, List, [], ◌∷◌, ◌++◌, map, length, take, drop, replicate, Option, Some, refl, sym, ap, ◌∙◌, arith, append_assoc, add_assoc, length-append, length-take, length-drop, take-append-drop, take-add, take_at, drop_at}
+use Rattle.std.proofs.Common.{◌≡◌, ℕ, ◌+◌, ◌-◌, ◌≤◌, List, [], ◌∷◌, ◌++◌, map, length, take, drop, replicate, Option, Some, refl, sym, ap, ◌∙◌, arith, append_assoc, add_assoc, length-append, length-take, length-drop, take-add, take_at, drop_at}
 use Rattle.std.proofs.lemmas.List.{length-map, length-replicate, map-append, take-map, drop-map, take-take, drop-take, take-replicate, drop-replicate}
 use Rattle.std.proofs.lemmas.Slice.{drop-append-drop}
 use Rattle.std.proofs.Math.Seq.{drop-append-add}
@@ -13,9 +13,6 @@ use Rattle.bs_block.proofs.Rounded.{rounded_above}
 pub somes_map : (xs : List ℕ) → somes (map Some xs) ≡ xs
 somes_map [] = refl
 somes_map (x ∷ xs) = ap (λ l. x ∷ l) (somes_map xs)
-
-pub spliced_none : (cs : List (Option ℕ)) (at : ℕ) → spliced cs at 0 [] ≡ cs
-spliced_none cs at = let same : at + 0 ≡ at = omega arith in ap (λ k. take at cs ++ drop k cs) same ∙ take-append-drop at cs
 
 module _ (cs : List (Option ℕ)) (at n : ℕ) (ws : List ℕ) (long : length ws ≡ n) where
   pub length-spliced : at + n ≤ length cs → length (spliced cs at n ws) ≡ length cs
@@ -95,23 +92,5 @@ fresh_by xs ys at n is at_is = ap (range at n) is ∙ ap (take n) (drop_at xs (r
 pub length-range : (xs : List ℕ) (at n : ℕ) → at + n ≤ length xs → length (range at n xs) ≡ n
 length-range xs at n le = omega (arith, le, length-take n (drop at xs), length-drop at xs)
 
--- a loan by `get_mut` keeps the length
-pub length-with_range : (xs : List ℕ) (at n : ℕ) (ws : List ℕ) → at + n ≤ length xs → length (with_range xs at n ws) ≡ length xs
-length-with_range xs at n ws le =
-    let new = refill n (range at n xs) ws in let long : n ≡ length new = length_refill n (range at n xs) ws (sym (length-range xs at n le)) in
-    omega (arith, le, long, length-append (take at xs) (new ++ drop (at + n) xs), length-append new (drop (at + n) xs), length-take at xs, length-drop (at + n) xs)
-
 pub length-padded : (ws : List ℕ) → length (padded ws) ≡ rounded (length ws)
 length-padded ws = let n = length ws in omega (arith, rounded_above n, length-append ws (replicate (rounded n - n) 0), length-replicate {A = ℕ} (rounded n - n) 0)
-
--- and so does the loan of `fill`
-pub length-extended : (xs : List ℕ) (n : ℕ) (ws : List ℕ) → length (extended xs n ws) ≡ length xs + rounded n
-length-extended xs n ws =
-    let new = refill n (replicate n 0) ws in let long : n ≡ length new = length_refill n (replicate n 0) ws (sym (length-replicate {A = ℕ} n 0)) in
-    omega (arith, length-append xs (padded new), length-padded new, ap rounded long)
-
--- where the bytes are as many as the loan, they are followed by zeros
-pub extended_whole : (xs : List ℕ) (n : ℕ) (ws : List ℕ)
-    → length ws ≡ n → extended xs n ws ≡ xs ++ padded ws
-extended_whole xs n ws whole =
-    ap (λ l. xs ++ padded l) (take_at ws (drop (length ws) (replicate n 0)) n whole)

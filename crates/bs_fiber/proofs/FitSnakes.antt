@@ -22,10 +22,8 @@ use Rattle.bs_rules.specs.Motion.{moved, given_to, IsMovable}
 use Rattle.bs_rules.proofs.Movable.{legal_is_movable, near_from_on_board, near_largest}
 use Rattle.bs_rules.proofs.Sound.{moves}
 use Rattle.bs_fiber.specs.declared.input.Input.{Input}
-use Rattle.bs_fiber.specs.Fit.{IsFitGame}
 use Rattle.bs_fiber.specs.Seeing.{IsBoardOf, IsSeen}
 use Rattle.bs_fiber.specs.Work.{moves_in, moved_part, snakes_in, wrap_in}
-use Rattle.bs_fiber.proofs.Seen.{some_view}
 
 near : Point → Type 0
 near p = is_near LONGEST_SIDE LONGEST_SIDE p ≡ true
@@ -145,11 +143,3 @@ moved_part_fits input view part seen =
 pub moved_part_few : (view : View) (command : Command) (part : ℕ) → length (moved_part part view command) ≤ 2
 moved_part_few view command part =
     omega (arith, length-map (take 2 (drop (2 * part) (snakes_in view.last))) (λ s. moved (wrap_in view.last) (given_to (moves_in command) s.id) s), length-take 2 (drop (2 * part) (snakes_in view.last)))
-
--- the snakes that a part of a fit game moves, in whichever view is read
-pub moved_fits : (input : Input) (moved : List Snake) → IsFitGame input
-    → ((view : View) → IsSeen view input → moved ≡ moved_part input.job.part view input.command) → (length moved ≤ 2) × All IsFitSnake moved
-moved_fits input moved fit is =
-    let seen = some_view input fit in
-    let same = is seen.0 seen.1 in
-    rw same (moved_part_few seen.0 input.command input.job.part, moved_part_fits input seen.0 input.job.part seen.1)

@@ -75,7 +75,7 @@ impl<const CAP: usize> Done<CAP> {
     {
         let mut contents = self.ticket.into_contents();
         match contents.out.take() {
-            Some(out) => (Ticket::again(contents), out),
+            Some(out) => (Ticket::rebuilt(contents), out),
             None => unreachable!(),
         }
     }
@@ -141,7 +141,7 @@ pub fn work<const CAP: usize>(alloc: Global, ticket: Ticket<CAP>) -> Result<Done
     let mut contents = ticket.into_contents();
     match work_in(alloc, &mut contents) {
         Ok(()) => Ok(Done {
-            ticket: Ticket::again(contents),
+            ticket: Ticket::rebuilt(contents),
         }),
         Err(_) => Err(Stopped {
             blocks: Box::into_inner(contents).frames,

@@ -95,7 +95,7 @@ impl Expected<'_> {
     }
 
     /// Overwrites a used input field by field, because moving one copies more than 100 bytes.
-    fn write_over(&self, alloc: Global, input: &mut Input) -> Result<(), AllocError>
+    fn overwrite(&self, alloc: Global, input: &mut Input) -> Result<(), AllocError>
         requires { IsLegalAsked self.now }
         ensures expected { OnOk result (IsOf input.new self.now) }
         ensures parts { OnOk result (input.new.parts ≡ []) }
@@ -123,7 +123,7 @@ impl Expected<'_> {
         ensures parts { IfOk result (λ contents. contents.value.input.parts ≡ []) }
         ensures frames { IfOk result (λ contents. contents.value.frames.items ≡ []) }
     {
-        self.write_over(alloc, &mut contents.input)?;
+        self.overwrite(alloc, &mut contents.input)?;
         contents.frames.clear();
         Ok(contents)
     }

@@ -86,7 +86,7 @@ impl<const CAP: usize> Ticket<CAP> {
     }
 
     /// Rebuilds the ticket of a job that was run, whose blocks may be written.
-    pub(crate) fn again(contents: Box<Contents<CAP>>) -> Ticket<CAP>
+    pub(crate) fn rebuilt(contents: Box<Contents<CAP>>) -> Ticket<CAP>
         requires { IsTicket CAP contents.value }
         ensures { result ≡ ticket_in contents.entry.value }
     {

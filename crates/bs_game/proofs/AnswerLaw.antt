@@ -1,6 +1,6 @@
 -- An answer from the view of a game is the answer to the game.
 use Rattle.std.proofs.Common.{◌≡◌, ℕ, ◌+◌, ◌≤◌, true, false, [], ◌∷◌, ◌++◌, Option, Some, None, map, refl, sym, ap, inl, inr, arith, length}
-use Rattle.std.specs.Prelude.{nat_eq, nat_le, nat_lt, is_some, IfSome, IfOk, Result, Ok, Err}
+use Rattle.std.specs.Prelude.{nat_eq, nat_le, nat_lt, is_some, IfSome}
 use Rattle.std.specs.List.{AllByRecursion}
 use Rattle.std.proofs.lemmas.Bool.{cases_Bool, ltb-false, leb-false}
 use Rattle.std.proofs.lemmas.List.{map-append}
@@ -23,7 +23,6 @@ use Rattle.bs_modes.specs.FirstBoard.{first_board}
 use Rattle.bs_modes.proofs.FirstLegal.{first_board_is_legal}
 use Rattle.bs_rules.specs.Turn.{turn_of}
 use Rattle.bs_rules.proofs.TurnLegal.{turn_is_legal}
-use Rattle.bs_game.specs.declared.reply.Answer.{Answer}
 use Rattle.bs_game.specs.declared.view.View.{View}
 use Rattle.bs_game.specs.Answer.{Fits, after_reply, answer_to, asked_board, outcome_of, view_of_game}
 use Rattle.bs_game.specs.Game.{Game, IsGame, board_charge, board_of_turn, game_charge, last_board}
@@ -31,11 +30,6 @@ use Rattle.bs_game.specs.Law.{IsFitEffect, IsAnswerTo, AnswerLaw, effected}
 use Rattle.bs_game.specs.Reasons.{reason_against}
 use Rattle.bs_game.specs.View.{IsFitView, answer_of, answer_with, effect_of, reply_to}
 use Rattle.bs_game.proofs.Games.{charge_of_nothing, charge_of_one, charge_of_one_more, charge_of_last, nothing_is_a_game, one_board_is_a_game, first_is_a_game, newest_of_map, newest_is_last, next_is_a_game, legal_last}
-
--- the reply determines the effect
-pub reply_tells_effect : (view : View) (command : Command) → (answer_of view command).effect ≡ effect_of (answer_of view command).reply
-unfolding answer_of
-reply_tells_effect view command = refl
 
 -- the records of the remaining boards
 pub records_after : (reply : Reply) (game : Game) → effected (effect_of reply) (map record_of game) ≡ map record_of (after_reply reply game)
@@ -217,11 +211,3 @@ view_of_game_is_fit quota game command right within small =
       within = within;
       small = small;
     }
-
--- an answer from the view of a game, if there was memory for one
-pub answered_as_the_game : {E : Type 0} (game : Game) (view : View) (most : ℕ) (command : Command) (result : Result Answer E) → IsGame game
-    → game_charge game ≤ most → Fits command → view ≡ view_of_game most game command → IfOk result (λ answer. answer ≡ answer_of view command)
-    → IfOk result (IsAnswerTo most game (answer_to most game command))
-answered_as_the_game game view most command (Ok answer) right within fits is value =
-    rw (value, is) (answers_the_game most game command right within fits)
-answered_as_the_game game view most command (Err error) right within fits is value = tt

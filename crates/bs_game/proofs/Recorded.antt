@@ -16,11 +16,7 @@ use Rattle.bs_game.specs.Game.{Game, IsGame, last_board, board_of_turn, game_cha
 use Rattle.bs_game.specs.Law.{IsAnswerTo, effected}
 use Rattle.bs_game.specs.inner.Recorded.{IsRecorded}
 use Rattle.bs_game.specs.Turns.{is_kept, place_of_turn, at_place}
-use Rattle.bs_game.proofs.Games.{nothing_is_a_game}
 use Rattle.bs_game.proofs.KeptTurns.{places, few_turns}
-
-pub nothing_recorded : IsRecorded [] []
-nothing_recorded = record { right = nothing_is_a_game; is = refl }
 
 -- there are as many records as boards
 pub as_many : (game : Game) (records : List (List ℕ)) → IsRecorded game records → length records ≡ length game

@@ -15,7 +15,6 @@ use Rattle.bs_json.specs.declared.plan.PlanFault.TheVariants as plan_fault
 use Rattle.bs_json.specs.PlanLine.{IsPlanFault, plan_line_of}
 use Rattle.bs_registry.specs.Blocks.{blocks_of_all}
 use Rattle.bs_host.specs.declared.fault.Fault.{Fault}
-use Rattle.bs_host.specs.declared.fault.Fault.TheVariants.{Plan as OfPlan}
 use Rattle.bs_host.specs.declared.fault.PlanRefusal.TheVariants as refusal
 use Rattle.bs_host.specs.declared.limits.TheConstants.{BLOCK_BYTES}
 use Rattle.bs_host.specs.declared.live_fault.LiveFault.{LiveFault}
@@ -25,7 +24,7 @@ use Rattle.bs_host.specs.File.{first_piece, later_pieces, pieces_of, plan_of, ro
 use Rattle.bs_host.specs.Live.{live_lines_of, live_of}
 use Rattle.bs_host.specs.inner.Live.{IsCutFirst}
 use Rattle.bs_host.specs.LiveFaults.{HasFirstAnswersOf, IsLiveFault, LeavesLive, live_fault_of_plan, live_refusal_of}
-use Rattle.bs_host.specs.inner.LiveFaults.{IsLiveRefusal, IsReadFault, LeavesLines}
+use Rattle.bs_host.specs.inner.LiveFaults.{IsLiveRefusal, LeavesLines}
 use Rattle.bs_host.proofs.HostedCore.{no_refusal}
 use Rattle.bs_host.proofs.CutPieces.{fails_everywhere, is_feed}
 use Rattle.bs_host.proofs.LiveHeld.{by_length, in_front, in_front_some, pieces_in_front}
@@ -45,11 +44,6 @@ pub none_refused : (blocks : ℕ) (first : List ℕ) (plan : Plan) → plan_line
     → refusal_of_plan blocks (plan_line_of first) ≡ None
 none_refused blocks first plan read room = ap (refusal_of_plan blocks) read ∙ no_refusal blocks plan room
 
-pub short_refused : (blocks : ℕ) (first : List ℕ) (plan : Plan) → plan_line_of first ≡ Ok plan → blocks < blocks_of_all BLOCK_BYTES plan.rows
-    → refusal_of_plan blocks (plan_line_of first) ≡ Some (OfPlan refusal.Short)
-short_refused blocks first plan read few =
-    ap (refusal_of_plan blocks) read ∙ cond-true _ (Some (OfPlan refusal.Short)) None (lt-ltb blocks (blocks_of_all BLOCK_BYTES plan.rows) few)
-
 -- faults of the whole
 
 kind_of_refusal : (refusal : Option Fault) (fault : LiveFault) → IsLiveRefusal refusal fault → IsLiveFault refusal fault
@@ -58,13 +52,6 @@ kind_of_refusal refusal (live.Plan reason) is = is
 kind_of_refusal refusal live.Memory is = tt
 kind_of_refusal refusal (live.Write written) is = absurd is
 kind_of_refusal refusal live.Flush is = absurd is
-
-pub kind_of_read : (refusal : Option Fault) (fault : LiveFault) → IsReadFault fault → IsLiveFault refusal fault
-kind_of_read refusal live.Device is = tt
-kind_of_read refusal (live.Plan reason) is = absurd is
-kind_of_read refusal live.Memory is = tt
-kind_of_read refusal (live.Write written) is = absurd is
-kind_of_read refusal live.Flush is = absurd is
 
 kind_of_left : (blocks : ℕ) (version : Version) (plan : List GameRow) (lines : List (List ℕ)) (old new : Option (List ℕ)) (refusal : Option Fault) (fault : LiveFault)
     → LeavesLines blocks version plan lines old new fault → refusal ≡ None → IsLiveFault refusal fault
@@ -88,13 +75,6 @@ left_by_refusal blocks file refusal a (live.Plan reason) is = keeps_itself a
 left_by_refusal blocks file refusal a live.Memory is = none_of_file blocks file a
 left_by_refusal blocks file refusal a (live.Write written) is = absurd is
 left_by_refusal blocks file refusal a live.Flush is = absurd is
-
-pub left_by_read : (blocks : ℕ) (file : List ℕ) (a : Option (List ℕ)) (fault : LiveFault) → IsReadFault fault → LeavesLive blocks file a a fault
-left_by_read blocks file a live.Device is = none_of_file blocks file a
-left_by_read blocks file a (live.Plan reason) is = absurd is
-left_by_read blocks file a live.Memory is = none_of_file blocks file a
-left_by_read blocks file a (live.Write written) is = absurd is
-left_by_read blocks file a live.Flush is = absurd is
 
 left_of_lines : (blocks : ℕ) (file : List ℕ) (old new : Option (List ℕ)) (fault : LiveFault)
     → LeavesLines blocks (version_of file) (rows_of file) (later_pieces (pieces_of file)) old new fault → LeavesLive blocks file old new fault

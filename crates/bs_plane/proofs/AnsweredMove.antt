@@ -58,14 +58,6 @@ some_last view bytes (Some last) is legal early of =
     let same : record_of last ≡ bytes = cc in
     record { board = last; last = is; legal = legal; is = sym same; early = early }
 
-pub charge_fits : (most charged : ℕ) (bytes : List ℕ) (view : View) → IsRunningView most charged bytes view → (own : ℕ) → own + MOST_QUOTA < 2 ^ 32 → charged + own < 2 ^ 32
-charge_fits most charged bytes view of own small =
-    let within = of.fit.within in
-    let few = of.fit.small in
-    let charge = of.charge in
-    let quota = of.quota in
-    omega arith
-
 module _ (most charged : ℕ) (orders : Orders) (bytes : List ℕ) (allowed : IsMoveReason bytes None) where
   passes : (view : View) → IsRunningView most charged bytes view → first_reason view (command.Move orders) ≡ None
   passes view of = reason_found bytes None allowed orders most charged view of

@@ -93,17 +93,11 @@ dead_after snakes s on p dead =
 
 -- ---- nothing yet
 
-pub no_foods : (plane : Plane) → Changes (with_foods []) plane plane
-no_foods plane = no_change (with_foods []) plane (λ on p. ap (λ t. record (on p) { food = t }) (sym (or-false (on p).food)))
-
 pub no_hazards : (plane : Plane) → Changes (with_hazards []) plane plane
 no_hazards plane = no_change (with_hazards []) plane (λ on p. ap (λ t. record (on p) { hazard = t }) (sym (or-false (on p).hazard)))
 
 pub no_parts : (plane : Plane) → Changes (with_body []) plane plane
 no_parts plane = no_change (with_body []) plane (λ on p. let same : (on p).parts ≡ (on p).parts + 0 = omega arith in ap (λ n. record (on p) { parts = n }) same)
-
-pub no_snakes : (plane : Plane) → Changes (with_snakes []) plane plane
-no_snakes plane = no_change (with_snakes []) plane (λ on p. let same : (on p).parts ≡ (on p).parts + 0 = omega arith in ap (λ n. record (on p) { parts = n }) same)
 
 -- ---- one more
 

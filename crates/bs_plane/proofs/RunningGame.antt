@@ -1,7 +1,7 @@
 -- A move in a game that runs, and the reason against it.
-use Rattle.std.proofs.Common.{◌≡◌, ℕ, ◌<◌, Bool, false, List, Option, Some, None, refl, sym, ap, ◌∙◌, inl, inr}
+use Rattle.std.proofs.Common.{◌≡◌, ℕ, ◌<◌, false, List, Option, Some, None, refl, sym, ◌∙◌, inl, inr}
 use Rattle.std.specs.Prelude.{IfSome, nat_le, option_map, if◌then◌else◌}
-use Rattle.std.proofs.lemmas.Bool.{cases_Bool, leb-false, lt-leb}
+use Rattle.std.proofs.lemmas.Bool.{cases_Bool, lt-leb}
 use Rattle.bs_board.specs.declared.boards.board.Board.{Board}
 use Rattle.bs_board.specs.declared.commands.command.Command.TheVariants as command
 use Rattle.bs_board.specs.declared.commands.reply.Refusal.{Refusal}
@@ -16,30 +16,9 @@ use Rattle.bs_game.specs.Reasons.{first_reason}
 use Rattle.bs_plane.specs.Running.{IsRunningView}
 use Rattle.bs_plane.specs.inner.Answered.{IsMoveReason, move_reason}
 
-reason_at : Bool → ℕ → Option Refusal
-reason_at over turn = if over then Some refusal.Over else (if nat_le LAST_TURN turn then Some refusal.Limit else None)
-
--- the reason that is found by the record
-pub reason_checked : (bytes : List ℕ) (over : Bool) (turn : ℕ) (reason : Option Refusal) → ((b : Board) → bytes ≡ record_of b → over ≡ is_over b) → ((b : Board) → bytes ≡ record_of b → turn ≡ b.turn)
-    → reason ≡ (if over then Some refusal.Over else (if nat_le LAST_TURN turn then Some refusal.Limit else None)) → IsMoveReason bytes reason
-unfolding reason_at
-reason_checked bytes over turn reason is at checked b legal same = checked ∙ ap (λ o. reason_at o turn) (is b same) ∙ ap (reason_at (is_over b)) (at b same)
-
 -- no reason is against a move in a game that is not over, before the last turn
 pub no_reason : (b : Board) → is_over b ≡ false → b.turn < LAST_TURN → None ≡ move_reason b
 no_reason b on early = let before = lt-leb LAST_TURN b.turn early in rw (on, before) refl
-
--- where there is none, the turn is not the last
-pub early_without : (b : Board) → None ≡ move_reason b → b.turn < LAST_TURN
-early_without b none =
-    elim (cases_Bool (is_over b)) [
-      | inl over ↦ let wrong : None ≡ Some refusal.Over = rw over at none in absurd cc
-      | inr on ↦
-          elim (cases_Bool (nat_le LAST_TURN b.turn)) [
-            | inl late ↦ let wrong : None ≡ Some refusal.Limit = rw (on, late) at none in absurd cc
-            | inr early ↦ leb-false LAST_TURN b.turn early
-          ]
-    ]
 
 reason_of_last : (view : View) (orders : Orders) (b : Board) → view.last ≡ Some b → first_reason view (command.Move orders) ≡ move_reason b
 unfolding first_reason

@@ -46,11 +46,6 @@ renamed_free : (rename : ℕ → ℕ) (o : Option ℕ) → is_unowned (option_ma
 renamed_free rename None = refl
 renamed_free rename (Some owner) = refl
 
-free_renamed : (rename : ℕ → ℕ) (group : List (Option ℕ)) → count_by is_unowned (renamed_owners rename group) ≡ count_by is_unowned group
-free_renamed rename [] = refl
-free_renamed rename (o ∷ group) =
-    omega (arith, count_cons is_unowned o group, count_cons is_unowned (option_map rename o) (renamed_owners rename group), ap one_if (renamed_free rename o), free_renamed rename group)
-
 -- the free numbers of the group take the place of as many as it has
 pub free_woven : (rename : ℕ → ℕ) (whole group : List (Option ℕ)) → length group ≤ count_by is_unowned whole
     → count_by is_unowned (woven rename whole group) + length group ≡ count_by is_unowned whole + count_by is_unowned group

@@ -1,17 +1,11 @@
 -- A step from the head and the part behind it is the step of the whole body.
-use Rattle.std.proofs.Common.{◌≡◌, ℕ, ◌≤◌, true, Option, Some, None, List, [], ◌∷◌, length, refl}
-use Rattle.bs_board.specs.declared.boards.point.Point.{Point}
+use Rattle.std.proofs.Common.{◌≡◌, ℕ, ◌≤◌, true, Option, Some, None, [], ◌∷◌, length, refl}
 use Rattle.bs_board.specs.declared.boards.point.Direction.{Direction}
 use Rattle.bs_board.specs.declared.boards.snake.Snake.{Snake}
 use Rattle.bs_board.specs.boards.Cell.{head_of}
 use Rattle.bs_board.specs.boards.Over.{is_living}
 use Rattle.bs_board.specs.records.Stepped.{stepped}
 use Rattle.bs_rules.specs.Motion.{direction_taken, moved, neighbor, second_of}
-
-pub next_is_moved_head : (wrap : Option (ℕ × ℕ)) (given : Option Direction) (body : List Point) → 2 ≤ length body
-    → neighbor wrap (head_of body) (direction_taken wrap given (head_of body ∷ second_of body ∷ [])) ≡ neighbor wrap (head_of body) (direction_taken wrap given body)
-next_is_moved_head wrap (Some direction) body long = refl
-next_is_moved_head wrap None body long = refl
 
 -- a snake that steps there is the snake moved
 pub stepped_is_moved : (wrap : Option (ℕ × ℕ)) (given : Option Direction) (s : Snake) → is_living s ≡ true → 3 ≤ length s.body

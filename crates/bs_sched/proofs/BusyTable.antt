@@ -3,7 +3,7 @@ use Rattle.std.proofs.Common.{◌≡◌, ℕ, zero, suc, ◌+◌, ◌<◌, ◌�
 use Rattle.std.specs.Prelude.{Some, None, ◌&&◌, ◌||◌, if◌then◌else◌, nat_eq, nat_le, nat_lt, not, slice_index_or, slice_set, replicate}
 use Rattle.std.specs.List.{list_all}
 use Rattle.std.proofs.lemmas.Bool.{cases_Bool, eqb-true, eqb-false, eq-eqb, lt-ltb, ltb-true, ltb-false}
-use Rattle.std.proofs.lemmas.List.{get_or-set_same, get_or-set_other, length-set, length-replicate}
+use Rattle.std.proofs.lemmas.List.{get_or-set_same, get_or-set_other, length-set}
 use Rattle.std.proofs.lemmas.List.Sums.{sum_by-set, sum_by-cons, sum_by_push}
 use Rattle.bs_board.proofs.Chains.{and_both}
 use Rattle.bs_board.specs.declared.commands.command.Command.{Command}
@@ -261,13 +261,6 @@ none_there zero zero = refl
 none_there zero (suc w) = refl
 none_there (suc n) zero = refl
 none_there (suc n) (suc w) = none_there n w
-
-pub none_marked : (workers : ℕ) (rows : List GameRow) → IsBusyTable workers (map (λ (row : GameRow). empty_lane row) rows) (replicate (workers + 1) false)
-none_marked workers rows =
-    record {
-      many = length-replicate (workers + 1) false;
-      each = λ w bound. none_held w rows ∙ sym (ap one_if (none_there (workers + 1) w));
-    }
 
 -- a new stay has no job, and a stay that leaves had none
 

@@ -55,9 +55,6 @@ goes_where most charge kept board asked command.Bad moves = let wrong : false �
 no_parts : (x : Lane) → goes_on (begun x) ≡ false → AreNextParts x 0
 no_parts x stays = record { is = rw stays refl; few = omega arith; some = λ moves. let wrong : false ≡ true = sym stays ∙ moves in absurd cc }
 
-pub none_but_moves : (x : Lane) (n : ℕ) → n ≡ 0 → is_move (lane_command (begun x)) ≡ false → AreNextParts x n
-none_but_moves x n none other = rw none (no_parts x (rw other refl))
-
 view_of_last : (view : View) (last : Option Board) → view.last ≡ last → view ≡ record { quota = view.quota; charge = view.charge; kept = view.kept; last = last; asked = view.asked }
 view_of_last view last is = ap (λ (l : Option Board). record { quota = view.quota; charge = view.charge; kept = view.kept; last = l; asked = view.asked }) is
 

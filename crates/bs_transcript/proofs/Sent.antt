@@ -1,6 +1,6 @@
 -- Lines that are bounded, and then sent to a writer through a buffer.
 use Rattle.std.proofs.Common.{◌≡◌, ℕ, suc, ◌+◌, ◌^◌, ◌<◌, ◌≤◌, min, List, [], ◌∷◌, ◌++◌, Option, length, take, drop, get_or, refl, sym, ap, ap₂, subst, ◌∙◌, arith, append_assoc, append-nil, length-append, take-append-drop, ◌-◌}
-use Rattle.std.specs.Prelude.{All, IfErr, MatchResult, OnOk, Result, Ok, Err}
+use Rattle.std.specs.Prelude.{All}
 use Rattle.std.specs.Io.KnownBytes.{Appends}
 use Rattle.std.proofs.KnownBytes.{Appends-nil, Appends-trans}
 use Rattle.std.proofs.Math.Seq.{take-append-add}
@@ -166,11 +166,3 @@ lines_cut lines number from to is later =
 pub on_its_way : (first now : Option (List ℕ)) (buffer : LineBuffer) (text : List ℕ) (left other : List (List ℕ)) → left ≡ other
     → IsOnItsWay first now buffer text left → IsOnItsWay first now buffer text other
 on_its_way first now buffer text left other is way = subst (IsOnItsWay first now buffer text) is way
-
-pub ok_part : {A E : Type 0} (r : Result A E) (P : Type 0) (Q : E → Type 0) → MatchResult r (λ _. P) Q → OnOk r P
-ok_part (Ok x) P Q is = is
-ok_part (Err e) P Q is = tt
-
-pub err_part : {A E : Type 0} (r : Result A E) (P : Type 0) (Q : E → Type 0) → MatchResult r (λ _. P) Q → IfErr r Q
-err_part (Ok x) P Q is = tt
-err_part (Err e) P Q is = is

@@ -12,8 +12,8 @@ use Rattle.bs_sched.specs.declared.event.Event.TheVariants as event
 use Rattle.bs_sched.specs.Core.{CoreView}
 use Rattle.bs_sched.specs.Isolation.{opened_lanes, shared_run}
 use Rattle.bs_sched.specs.Journal.{IsItsJournal, KeepsApart, setting_in}
-use Rattle.bs_sched.specs.Coming.{RefusesAdmit, RefusesLeave}
-use Rattle.bs_sched.specs.Lane.{Lane, is_quiet, may_leave}
+use Rattle.bs_sched.specs.Coming.{RefusesAdmit}
+use Rattle.bs_sched.specs.Lane.{Lane, is_quiet}
 use Rattle.bs_sched.specs.Machine.{Setting, game_of, has_hands, is_admit, is_allowed, is_enabled, is_enabled_there, lane_of, may_admit, row_in}
 use Rattle.bs_sched.specs.declared.stays.Admit.{Admit}
 use Rattle.bs_sched.specs.declared.stays.Admit.TheVariants as admit
@@ -115,21 +115,6 @@ admit_for_memory setting lanes row admit.NameOpen enabled refuses = let wrong = 
 admit_for_memory setting lanes row admit.Full enabled refuses = let wrong = sym refuses ∙ none_refuses setting lanes row enabled in absurd cc
 admit_for_memory setting lanes row (admit.Short free) enabled refuses = let wrong = sym refuses ∙ none_refuses setting lanes row enabled in absurd cc
 admit_for_memory setting lanes row admit.Memory enabled refuses = refl
-
--- so it is with a leave
-pub leave_for_memory : (setting : Setting) (lanes : List Lane) (stay : ℕ) (reason : Leave) → is_enabled setting lanes (event.Leave stay) ≡ true
-    → RefusesLeave (lane_of lanes stay) reason → reason ≡ leave.Memory
-leave_for_memory setting lanes stay leave.Closed enabled refuses =
-    let may = and_parts (nat_lt stay (length lanes)) (may_leave (lane_of lanes stay) && true) enabled in
-    let both = and_parts (may_leave (lane_of lanes stay)) true may.1 in
-    let opens = (and_parts (lane_of lanes stay).is_open (is_quiet (lane_of lanes stay)) both.0).0 in
-    let wrong : false ≡ true = sym refuses ∙ opens in absurd cc
-leave_for_memory setting lanes stay leave.Busy enabled refuses =
-    let may = and_parts (nat_lt stay (length lanes)) (may_leave (lane_of lanes stay) && true) enabled in
-    let both = and_parts (may_leave (lane_of lanes stay)) true may.1 in
-    let quiet = (and_parts (lane_of lanes stay).is_open (is_quiet (lane_of lanes stay)) both.0).1 in
-    let wrong : false ≡ true = sym refuses.1 ∙ quiet in absurd cc
-leave_for_memory setting lanes stay leave.Memory enabled refuses = refl
 
 -- the row of an enabled event is there
 pub is_there : (setting : Setting) (lanes : List Lane) (e : Event) → is_admit e ≡ false → is_enabled setting lanes e ≡ true → game_of e < length lanes

@@ -5,9 +5,8 @@ use Rattle.std.proofs.lemmas.List.{append-nil, append_assoc}
 use Rattle.std.proofs.lemmas.List.Elements.{All-nil, All-append, All-cons}
 use Rattle.bs_fiber.specs.Tickets.{TicketView}
 use Rattle.bs_fiber.specs.declared.job.JobName.{JobName}
-use Rattle.bs_counter.specs.Keys.{TallyId}
 use Rattle.bs_sched.specs.Assembly.{IsJob}
-use Rattle.bs_sched.specs.Core.{CoreView, core_after, core_taken}
+use Rattle.bs_sched.specs.Core.{CoreView, core_after}
 use Rattle.bs_sched.specs.Parts.{core_run, puts_of}
 use Rattle.bs_sched.specs.declared.event.Event.{Event}
 use Rattle.bs_sched.specs.declared.event.Event.TheVariants as event
@@ -33,16 +32,6 @@ goes_on_both old between new first second =
 pub goes_on_here : (old new : CoreView) → Makes [] old new → GoesOn old new
 goes_on_here old new made =
     record { jobs = made.added; journal = made.journal; are_jobs = are_jobs made.added made.acted; workers = made.workers }
-
-pub goes_on_taken : (cap : ℕ) (old new : CoreView) (worker : ℕ) (job : JobName) (tallies : List (Option TallyId)) → new ≡ core_taken cap old worker job tallies
-    → GoesOn old new
-goes_on_taken cap old new worker job tallies is =
-    record {
-      jobs = event.Take worker job ∷ [];
-      journal = ap (λ (c : CoreView). c.journal) is;
-      are_jobs = All-cons IsJob (event.Take worker job) [] tt (All-nil IsJob);
-      workers = ap (λ (c : CoreView). c.games.workers) is;
-    }
 
 pub goes_on_put : (cap : ℕ) (old new : CoreView) (worker : ℕ) (job : JobName) → new ≡ core_after cap old (event.Put worker job) → GoesOn old new
 goes_on_put cap old new worker job is =

@@ -1,16 +1,12 @@
 -- What the acts so far say of the stays, and the events of the acts.
-use Rattle.std.proofs.Common.{◌≡◌, ℕ, suc, ◌+◌, ◌<◌, Bool, true, false, List, [], ◌∷◌, ◌++◌, length, map, take, get_or, refl, sym, ap, subst, ◌∙◌, arith, inl, inr}
-use Rattle.std.specs.Prelude.{◌&&◌, ◌||◌, All, nat_eq, slice_set}
+use Rattle.std.proofs.Common.{◌≡◌, ℕ, ◌+◌, ◌<◌, Bool, true, false, List, [], ◌∷◌, ◌++◌, length, map, take, get_or, refl, sym, ap, subst, ◌∙◌}
+use Rattle.std.specs.Prelude.{◌&&◌, ◌||◌, All, nat_eq}
 use Rattle.std.specs.List.{filter_map, list_any}
-use Rattle.std.proofs.lemmas.Bool.{cases_Bool, ne_eqb}
-use Rattle.std.proofs.lemmas.Bool.Decides.{eqb_tells}
-use Rattle.std.proofs.lemmas.Grind.{get_or-set_at}
-use Rattle.std.proofs.lemmas.List.{append_assoc, get_or-set_other, length-set, map-append, take_more}
+use Rattle.std.proofs.lemmas.List.{append_assoc, map-append, take_more}
 use Rattle.std.proofs.lemmas.List.Elements.{All-push}
 use Rattle.std.proofs.lemmas.List.Folds.{list_any-append}
 use Rattle.bs_board.specs.plans.Plan.{GameRow}
 use Rattle.bs_registry.specs.Stays.{Capacity, Stay}
-use Rattle.bs_sched.specs.declared.event.Event.{Event}
 use Rattle.bs_sched.specs.declared.step.Step.{Step}
 use Rattle.bs_sched.specs.Isolation.{HandsFit}
 use Rattle.bs_sched.specs.Registry.{commands_to, rows_in}
@@ -20,7 +16,7 @@ use Rattle.bs_workers.specs.declared.act.Act.{Act}
 use Rattle.bs_workers.specs.declared.act.Act.TheVariants as act
 use Rattle.bs_workers.specs.Acts.{are_acceptable, command_in, is_acceptable, registry_after, rows_admitted}
 use Rattle.bs_workers.specs.Run.{acts_of}
-use Rattle.bs_workers.specs.inner.Stays.{HaveLeft, event_of, is_leave, step_in, with_leave}
+use Rattle.bs_workers.specs.inner.Stays.{event_of, is_leave, step_in}
 use Rattle.bs_workers.proofs.Ended.{commands_of_acts, rows_of_acts}
 
 -- one more act
@@ -69,39 +65,6 @@ or_true false c is = is
 or_false : (b c : Bool) → c ≡ false → (b || c) ≡ b
 or_false true c is = refl
 or_false false c is = is
-
-or_nothing : (b : Bool) → (b || false) ≡ b
-or_nothing true = refl
-or_nothing false = refl
-
-pub one_more_leaves : (acts : List Act) (i : ℕ) (next : Act) (leaves new : List Bool) → i < length acts → next ≡ get_or acts i next
-    → new ≡ with_leave next leaves → HaveLeftSo acts i leaves → HaveLeftSo acts (i + 1) new
-one_more_leaves acts i (act.Hand stay command) leaves new within is made before =
-    λ row there.
-    ap (λ some. get_or some row false) made ∙ before row (subst (λ some. row < length some) made there)
-    ∙ sym (leaves_more acts i (act.Hand stay command) row within is ∙ or_nothing (list_any (is_leave row) (take i acts)))
-one_more_leaves acts i (act.Admit added) leaves new within is made before =
-    λ row there.
-    ap (λ some. get_or some row false) made ∙ before row (subst (λ some. row < length some) made there)
-    ∙ sym (leaves_more acts i (act.Admit added) row within is ∙ or_nothing (list_any (is_leave row) (take i acts)))
-one_more_leaves acts i (act.Leave stay) leaves new within is made before =
-    λ row there.
-    let long : length new ≡ length leaves = ap length made ∙ length-set leaves stay true in
-    let inside : row < length leaves = omega (arith, there, long) in
-    elim (eqb_tells row stay) [
-      | inl on ↦
-          let same : row ≡ stay = on.1 in
-          let here : is_leave row (act.Leave stay) ≡ true = subst (λ r. nat_eq r row ≡ true) same (subst (λ s. nat_eq row s ≡ true) (sym same) on.0) in
-          ap (λ some. get_or some row false) made ∙ get_or-set_at leaves stay row true false same (subst (λ r. r < length leaves) same inside)
-          ∙ sym (leaves_more acts i (act.Leave stay) row within is
-          ∙ or_true (list_any (is_leave row) (take i acts)) (is_leave row (act.Leave stay) || false) (or_nothing (is_leave row (act.Leave stay)) ∙ here))
-      | inr off ↦
-          let other : ¬ (row ≡ stay) = off.1 in
-          let not_here : is_leave row (act.Leave stay) ≡ false = ne_eqb stay row (λ e. other (sym e)) in
-          ap (λ some. get_or some row false) made ∙ get_or-set_other leaves stay row true false other ∙ before row inside
-          ∙ sym (leaves_more acts i (act.Leave stay) row within is
-          ∙ or_false (list_any (is_leave row) (take i acts)) (is_leave row (act.Leave stay) || false) (or_nothing (is_leave row (act.Leave stay)) ∙ not_here))
-    ]
 
 -- the events of acts
 

@@ -1,5 +1,5 @@
 -- The causes of the reasons why threads stopped.
-use Rattle.std.proofs.Common.{◌≡◌, Option, Some, None, refl}
+use Rattle.std.proofs.Common.{◌≡◌, Option, Some, None}
 use Rattle.std.specs.Prelude.{IfSome}
 use Rattle.bs_workers.specs.declared.stop.Stop.{Stop}
 use Rattle.bs_workers.specs.declared.stop.Stop.TheVariants as stop
@@ -14,9 +14,3 @@ kept_cause refuses (Some stop.Refused) stop.Memory first second = tt
 kept_cause refuses (Some stop.Refused) stop.Refused first second = first
 kept_cause refuses (Some stop.Refused) stop.Failed first second = first
 kept_cause refuses (Some stop.Failed) later first second = second
-
--- a check of the run's own, or memory, has no cause
-pub unrefused_cause : (refuses : Type 0) (reason : Stop) → (reason ≡ stop.Refused → ⊥) → IsStopCause refuses reason
-unrefused_cause refuses stop.Memory other = tt
-unrefused_cause refuses stop.Refused other = absurd (other refl)
-unrefused_cause refuses stop.Failed other = tt

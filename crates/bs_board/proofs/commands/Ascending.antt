@@ -1,5 +1,5 @@
 -- Lists of directions whose ids ascend.
-use Rattle.std.proofs.Common.{◌≡◌, ℕ, zero, suc, ◌+◌, ◌≤◌, List, [], ◌∷◌, length, drop, true, false, refl, arith, Less, Equal, Greater, ◌∙◌}
+use Rattle.std.proofs.Common.{◌≡◌, ℕ, ◌+◌, ◌≤◌, List, [], ◌∷◌, true, false, refl, Less, Equal, Greater, ◌∙◌}
 use Rattle.std.specs.Cmp.Lexicographic.{slice_cmp, texts_ties}
 use Rattle.std.specs.List.{list_any}
 use Rattle.std.specs.Ordering.{nat_cmp, is_lt}
@@ -10,14 +10,6 @@ use Rattle.bs_board.specs.Texts.{is_same_text, is_text_below}
 use Rattle.bs_board.specs.commands.Orders.{Orders, IsFitOrders, are_distinct_moves, is_ascending}
 use Rattle.bs_board.specs.inner.Orders.{IsAscendingOrders}
 use Rattle.bs_board.proofs.Chains.{and_both}
-
--- nothing is left to compare at the last entry
-pub ascending_at_end : (xs : List (List ℕ × Direction)) (i : ℕ) → length xs ≤ i + 1 → is_ascending (drop i xs) ≡ true
-ascending_at_end [] zero h = refl
-ascending_at_end [] (suc i) h = refl
-ascending_at_end (x ∷ []) zero h = refl
-ascending_at_end (x ∷ y ∷ rest) zero h = absurd (omega arith)
-ascending_at_end (x ∷ rest) (suc i) h = ascending_at_end rest i (omega arith)
 
 less_is : (o : Ordering) → is_lt o ≡ true → o ≡ Less
 less_is Less h = refl

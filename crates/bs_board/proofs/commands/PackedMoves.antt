@@ -1,20 +1,16 @@
 -- What is packed is unpacked again.
-use Rattle.std.proofs.Common.{◌≡◌, ℕ, zero, suc, ◌+◌, ◌-◌, ◌≤◌, List, [], ◌∷◌, ◌++◌, length, take, drop, true, false, Some, None, Option, Result, Ok, Err, cond, refl, subst, sym, ap, ◌∙◌, append_assoc, arith, length-append}
-use Rattle.std.specs.Prelude.{flat_map, is_ok, OnOk, slice_index_or}
-use Rattle.std.specs.Str.{bytes_eq, is_utf8}
-use Rattle.std.specs.Bool.{Decides}
+use Rattle.std.proofs.Common.{◌≡◌, ℕ, zero, suc, ◌+◌, ◌-◌, ◌≤◌, List, [], ◌∷◌, ◌++◌, length, drop, true, false, Some, None, Result, Ok, Err, cond, refl, subst, sym, ap, ◌∙◌, append_assoc, arith, length-append}
+use Rattle.std.specs.Prelude.{flat_map, is_ok, OnOk}
+use Rattle.std.specs.Str.{is_utf8}
 use Rattle.std.proofs.lemmas.Grind.{flat_map-append}
 use Rattle.std.proofs.lemmas.List.{append-nil, drop_all, drop_at, take_at}
 use Rattle.std.proofs.lemmas.List.Elements.{All-drop, All-head, All-nil, All-push}
-use Rattle.std.proofs.lemmas.Slice.Eq.{bytes_eq-Decides}
 use Rattle.bs_board.specs.declared.boards.point.Direction.{Direction}
 use Rattle.bs_board.specs.declared.boards.point.Direction.TheVariants.{Up, Down, Left, Right}
 use Rattle.bs_board.specs.Texts.{IdsAreTexts, is_same_text, is_text_below}
 use Rattle.bs_board.specs.commands.Orders.{given_to, is_ascending}
-use Rattle.bs_board.specs.inner.Decoder.{from_two_bytes}
 use Rattle.bs_board.specs.inner.Packed.{ArePacked, direction_byte, direction_of, packed, packed_move, unpack, unpacked}
 use Rattle.bs_board.proofs.records.Fields.{number_again}
-use Rattle.bs_board.proofs.records.LayoutBytes.{cut_text, rest_is}
 
 direction_again : (d : Direction) → direction_of (direction_byte d) ≡ d
 direction_again Up = refl
@@ -43,19 +39,6 @@ pub no_entry : (moves : List (List ℕ × Direction)) (bytes : List ℕ) → byt
 no_entry [] bytes is few = refl
 no_entry (move ∷ moves) bytes is few = absurd (let long = ap length is in omega (arith, length-append (packed_move move) (packed moves)))
 
--- the first entry, by its bytes
-pub first_entry : (moves : List (List ℕ × Direction)) (bytes id rest : List ℕ) (len : ℕ) (d : Direction) → bytes ≡ packed moves → 3 ≤ length bytes
-    → len ≡ from_two_bytes (slice_index_or bytes 1 0) (slice_index_or bytes 2 0) → d ≡ direction_of (slice_index_or bytes 0 0)
-    → id ≡ take len (take (length bytes - 3) (drop 3 bytes)) → rest ≡ drop len (take (length bytes - 3) (drop 3 bytes))
-    → (moves ≡ (id, d) ∷ drop 1 moves) × (rest ≡ packed (drop 1 moves))
-first_entry [] bytes id rest len d is some long way first after = absurd (let none = ap length is in omega arith)
-first_entry (move ∷ moves) bytes id rest len d is some long way first after =
-    let many : len ≡ length move.0 = long ∙ rw is (number_again (length move.0)) in
-    let left : take (length bytes - 3) (drop 3 bytes) ≡ move.0 ++ packed moves = rest_is 3 bytes ∙ ap (drop 3) is in
-    let parts = cut_text move.0 (packed moves) (take (length bytes - 3) (drop 3 bytes)) id rest len left many first after in
-    let to : d ≡ move.1 = way ∙ rw is (direction_again move.1) in
-    (rw (parts.0, to) refl, parts.1)
-
 pub none_unpacked : (bytes : List ℕ) → bytes ≡ [] → unpacked bytes ≡ []
 unfolding unpacked
 none_unpacked bytes none = rw none refl
@@ -79,12 +62,6 @@ pub pushed : {A E : Type 0} (r : Result A E) (bytes next id : List ℕ) (d : Dir
 pushed (Ok x) bytes next id d moves kept was text is =
     let one = one_pushed bytes next id d kept text is in (one.1, one.0 ∙ ap (λ m. m ++ (id, d) ∷ []) was)
 pushed (Err e) bytes next id d moves kept was text is = (subst (λ b. ArePacked (unpacked b) b) (sym is) kept, tt)
-
-pub same_packed : (xs ys : List ℕ) → ArePacked (unpacked xs) xs → ArePacked (unpacked ys) ys → Decides (bytes_eq xs ys) (unpacked xs ≡ unpacked ys)
-same_packed xs ys first second = (
-  λ same. ap unpacked ((bytes_eq-Decides xs ys).0 same),
-  λ is. (bytes_eq-Decides xs ys).1 (first.whole ∙ ap packed is ∙ sym second.whole),
-)
 
 -- ---- the first entry decides, or the later ones do
 

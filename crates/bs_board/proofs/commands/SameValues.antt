@@ -1,15 +1,10 @@
 -- Tests that compare lists member by member decide whether they are equal.
-use Rattle.std.proofs.Common.{◌≡◌, ℕ, true, ◌&&◌, List, refl, ap, rules}
+use Rattle.std.proofs.Common.{◌≡◌, ℕ, ◌&&◌, List, refl, ap}
 use Rattle.std.specs.Bool.{Decides}
 use Rattle.std.proofs.lemmas.Slice.Eq.{bytes_eq-Decides}
 use Rattle.std.proofs.lemmas.Bool.Decides.{Decides-int_eq}
 use Rattle.bs_board.specs.declared.boards.point.Point.{Point}
-use Rattle.bs_board.specs.declared.boards.point.Direction.{Direction}
-use Rattle.bs_board.specs.declared.boards.point.Direction.TheVariants.{Up, Down, Left, Right}
 use Rattle.bs_board.specs.boards.Cell.{is_same_cell}
-use Rattle.bs_board.specs.contracts.boards.point.DirectionPartialEq.TheImpl.{eq-value}
-use Rattle.bs_board.specs.contracts.boards.point.Direction.{the_type}
-use denote.Enum.Bare.{same_true}
 use Rattle.bs_board.specs.Texts.{is_same_text}
 use Rattle.bs_board.proofs.Chains.{and_both}
 
@@ -35,25 +30,4 @@ same_start s t =
           let right = cell.0 each.1 in
           rw (left, right) refl,
       λ e. rw (id.1 (ap (λ (p : List ℕ × Point). p.0) e), cell.1 (ap (λ (p : List ℕ × Point). p.1) e)) refl,
-    )
-
-same_itself : (d : Direction) → eq-value.it d d ≡ true
-same_itself Up = refl
-same_itself Down = refl
-same_itself Left = refl
-same_itself Right = refl
-
-same_direction : (d e : Direction) → Decides (eq-value.it d e) (d ≡ e)
-same_direction d e = (λ same. same_true the_type (search rules) d e same, λ is. rw is (same_itself e))
-
-pub same_move : (s t : List ℕ × Direction) → Decides (is_same_text s.0 t.0 && eq-value.it s.1 t.1) (s ≡ t)
-same_move s t =
-    let id = bytes_eq-Decides s.0 t.0 in
-    let direction = same_direction s.1 t.1 in (
-      λ same.
-          let each = and_both _ _ same in
-          let left = id.0 each.0 in
-          let right = direction.0 each.1 in
-          rw (left, right) refl,
-      λ e. rw (id.1 (ap (λ (p : List ℕ × Direction). p.0) e), direction.1 (ap (λ (p : List ℕ × Direction). p.1) e)) refl,
     )

@@ -12,7 +12,7 @@ use Rattle.bs_board.specs.declared.boards.snake.Snake.{Snake}
 use Rattle.bs_board.specs.declared.records.decode_error.Decode.{Decode}
 use Rattle.bs_board.specs.declared.records.decode_error.Decode.TheVariants.{NotARecord, Memory}
 use Rattle.bs_board.specs.boards.Legal.{IsLegal}
-use Rattle.bs_board.specs.inner.Decoder.{Fails, Gives, read_cell, read_many, read_snake, read_board, read_ground}
+use Rattle.bs_board.specs.inner.Decoder.{Fails, Gives, read_cell, read_many, read_snake, read_board, read_without_snakes}
 use Rattle.bs_board.specs.records.Layout.{IsBoardBytes}
 use Rattle.bs_board.specs.records.Kept.{IsLegalRecord}
 use Rattle.bs_board.specs.inner.Kept.{board_in}
@@ -78,26 +78,26 @@ record_of_board_in bytes kept = kept.is ∙ ap record_of (sym (only_board_in byt
 
 -- ---- the board without its snakes
 
-ground_again : (b : Board) → IsWritableBoard b → read_ground (record_of b) ≡ Some (record b { snakes = [] })
-unfolding read_ground
+ground_again : (b : Board) → IsWritableBoard b → read_without_snakes (record_of b) ≡ Some (record b { snakes = [] })
+unfolding read_without_snakes
 ground_again b fits =
     let seats = flat_map snake_record b.snakes in
     let food = many_again (read_cell 0) (cell_bytes 0) (IsByteCell 0) (cell_again 0) b.food (hazard_bytes b.hazards ++ seats)
     (recursion_from_All (IsByteCell 0) b.food fits.cells) in
     let hazards = hazards_again b.hazards seats fits.hazards in
-    ap read_ground (regrouped b) ∙ rw (head_again b (flat_map (cell_bytes 0) b.food ++ (hazard_bytes b.hazards ++ seats)), food, hazards) refl
+    ap read_without_snakes (regrouped b) ∙ rw (head_again b (flat_map (cell_bytes 0) b.food ++ (hazard_bytes b.hazards ++ seats)), food, hazards) refl
 
-ground_stands : (bytes : List ℕ) (b : Board) → IsLegal b → bytes ≡ record_of b → read_ground bytes ≡ Some (record b { snakes = [] })
-ground_stands bytes b legal is = ap read_ground is ∙ ground_again b (legal_is_writable b legal)
+ground_stands : (bytes : List ℕ) (b : Board) → IsLegal b → bytes ≡ record_of b → read_without_snakes bytes ≡ Some (record b { snakes = [] })
+ground_stands bytes b legal is = ap read_without_snakes is ∙ ground_again b (legal_is_writable b legal)
 
-pub ground_fails_for_memory : (bytes : List ℕ) (read : Result Board Decode) → IsLegalRecord bytes → Gives (λ board. board) read (read_ground bytes)
+pub ground_fails_for_memory : (bytes : List ℕ) (read : Result Board Decode) → IsLegalRecord bytes → Gives (λ board. board) read (read_without_snakes bytes)
     → IfErr read (λ error. error ≡ Memory)
 ground_fails_for_memory bytes read kept =
-    fails_for_memory read (read_ground bytes) (record kept.board { snakes = [] }) (ground_stands bytes kept.board kept.legal kept.is)
+    fails_for_memory read (read_without_snakes bytes) (record kept.board { snakes = [] }) (ground_stands bytes kept.board kept.legal kept.is)
 
 pub ground_is_found : {E : Type 0} (bytes : List ℕ) (b : Board) (read : Result Board Decode) (result : Result Board E) → IsLegal b → bytes ≡ record_of b
-    → Gives (λ board. board) read (read_ground bytes) → IfOk result (λ board. read ≡ Ok board) → IfOk result (λ board. board ≡ record b { snakes = [] })
-ground_is_found bytes b read result legal is = finds_value read result (read_ground bytes) (record b { snakes = [] }) (ground_stands bytes b legal is)
+    → Gives (λ board. board) read (read_without_snakes bytes) → IfOk result (λ board. read ≡ Ok board) → IfOk result (λ board. board ≡ record b { snakes = [] })
+ground_is_found bytes b read result legal is = finds_value read result (read_without_snakes bytes) (record b { snakes = [] }) (ground_stands bytes b legal is)
 
 -- ---- some of the snakes
 

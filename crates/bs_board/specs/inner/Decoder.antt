@@ -165,8 +165,8 @@ read_board is_text bytes = do
 -- ---- reading parts of a record that is known to be one
 
 -- the board without its snakes
-unfoldable pub read_ground : List ℕ → Option Board
-read_ground bytes = do
+unfoldable pub read_without_snakes : List ℕ → Option Board
+read_without_snakes bytes = do
   head ← read_head bytes
   food ← read_many (read_cell 0) head.0.food head.1
   hazards ← read_hazards head.0.hazardous food.1

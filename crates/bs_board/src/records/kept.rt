@@ -4,7 +4,7 @@ ghost use Rattle.std.specs.Prelude.{◌≡◌, Ok, IfOk, IfErr, MatchResult, dro
 ghost use Rattle.bs_board.specs.declared.boards.board.Board.{Board as AnyBoard};
 ghost use Rattle.bs_board.specs.declared.records.decode_error.Decode.TheVariants.{Memory};
 ghost use Rattle.bs_board.specs.boards.Legal.{IsLegal};
-ghost use Rattle.bs_board.specs.inner.Decoder.{Gives, read_ground};
+ghost use Rattle.bs_board.specs.inner.Decoder.{Gives, read_without_snakes};
 ghost use Rattle.bs_board.specs.records.Layout.{IsBoardBytes};
 
 use crate::boards::board::Board;
@@ -26,9 +26,9 @@ pub(crate) fn found<T>(read: Result<T, Decode>) -> Result<T, AllocError>
     }
 }
 
-#[tactic(auto, unfolding(crate::specs::inner::Decoder::read_ground))]
-pub(crate) fn read_ground(alloc: Global, bytes: &[u8]) -> Result<Board, Decode>
-    ensures { Gives (λ board. board) result (read_ground bytes.now) }
+#[tactic(auto, unfolding(crate::specs::inner::Decoder::read_without_snakes))]
+pub(crate) fn read_without_snakes(alloc: Global, bytes: &[u8]) -> Result<Board, Decode>
+    ensures { Gives (λ board. board) result (read_without_snakes bytes.now) }
 {
     let (head, rest) = read_head(bytes)?;
     let (food, rest) = read_cells(alloc, head.food, 0, rest)?;

@@ -4,7 +4,7 @@ use crate::boards::board::{Board, Mode};
 use crate::boards::snakes::Snakes;
 use crate::records::decoding::read_board;
 use crate::records::encoding::encode;
-use crate::records::kept::{found, read_ground, read_seats};
+use crate::records::kept::{found, read_seats, read_without_snakes};
 use crate::records::layout::{BoardBytes, split_board};
 use std::alloc::{AllocError, Global};
 use std::marker::Model;
@@ -108,7 +108,7 @@ impl Record {
     pub fn without_snakes(&self, alloc: Global) -> Result<Board, AllocError>
         ensures { (b : AnyBoard) → IsLegal b → self.now ≡ record_of b → IfOk result (λ board. board ≡ record b { snakes = [] }) }
     {
-        found(read_ground(alloc, self.as_slice()))
+        found(read_without_snakes(alloc, self.as_slice()))
     }
 
     /// Decodes the snakes at `count` seats from `from` on; fewer if the board has no more. The
