@@ -6,18 +6,19 @@ ghost use Rattle.bs_sched.specs.ApartExample.{ApartExample};
 ghost use Rattle.bs_sched.specs.Assembly.{AssemblyLaw, SharingLaw};
 ghost use Rattle.bs_sched.specs.StaysApart.{PlayedExample, StaysApartLaw};
 
-/// States the isolation law for every plan within its limits, every number of workers, every list
-/// of events whose commands and rows are within the limits, and every stay of the plan or admitted
-/// by the events. The stay's accepted events, run alone, give the very same lane; no event of
-/// another stay changes it; and its replies and boards are those of its own commands, one after the
-/// other. The bytes of its records lie at their places in blocks that no other stay has; they are
-/// the bytes that it has when run alone, and no event of another stay moves or changes one. Free
-/// blocks, blocks of records and frame blocks add up to the pool; each block is exactly one of
-/// these, and belongs to one stay at most. A move has at most four frame blocks, and a stay without
-/// a move has none. If a block is needed, one is free. A stay that has left owns no block, and the
-/// reservations are those of the open stays. Whether a stay is admitted depends on earlier
-/// admissions and leaves, and on no job. No two open stays have one name. A stay can be admitted,
-/// play a turn by all jobs of a move, with the replies and boards that it has alone, and be closed.
+/// States the isolation law for every plan within its limits, whose reservations fit the blocks,
+/// every number of workers, every list of events whose commands and rows are within the limits, and
+/// every stay of the plan or admitted by the events. The stay's accepted events, run alone, give
+/// the very same lane; no event of another stay changes it; and its replies and boards are those of
+/// its own commands, one after the other. The bytes of its records lie at their places in blocks
+/// that no other stay has; they are the bytes that it has when run alone, and no event of another
+/// stay moves or changes one. Free blocks, blocks of records and frame blocks add up to the pool;
+/// each block is exactly one of these, and belongs to one stay at most. A move has at most four
+/// frame blocks, and a stay without a move has none. If a block is needed, one is free. A stay that
+/// has left owns no block, and the reservations are those of the open stays. Whether a stay is
+/// admitted depends on earlier admissions and leaves, and on no job. No two open stays have one
+/// name. A stay can be admitted, play a turn by all jobs of a move, with the replies and boards
+/// that it has alone, and be closed.
 /// Does nothing.
 pub fn isolation_law()
     ensures isolation { IsolationLaw }
