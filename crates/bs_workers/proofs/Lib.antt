@@ -7,6 +7,7 @@ pub mod ListedStays
 pub mod MadeActs
 pub mod OpenRows
 pub mod Played
+pub mod PlayedRows
 pub mod PlayedStays
 pub mod Repeated
 pub mod RunAlone

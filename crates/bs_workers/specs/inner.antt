@@ -4,3 +4,4 @@ pub mod Faults
 pub mod Making
 pub mod Stays
 pub mod Stops
+pub mod PlayedRows

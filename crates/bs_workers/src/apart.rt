@@ -14,6 +14,7 @@ ghost use Rattle.bs_workers.specs.declared.stop.Stop.TheVariants as reason;
 
 use crate::act::Act;
 use crate::alone::keeps_apart;
+use crate::boxed::BoxedStay;
 use crate::gate::Gate;
 use crate::player::Player;
 use crate::stays::Stays;
@@ -35,7 +36,7 @@ fn put_stay<const CAP: usize>(
 /// The stays in the order of their rows. `Failed` if one was not played.
 fn in_order<const CAP: usize>(
     alloc: Global,
-    slots: Vec<Option<LoneStay<CAP>>>,
+    slots: Vec<Option<BoxedStay<CAP>>>,
 ) -> Result<Vec<LoneStay<CAP>>, Stop>
     ensures all { IfOk result (λ stays. map Some stays.items ≡ slots.entry.items) }
     ensures cause { IfErr result (λ stop. stop ≢ reason.Refused) }
@@ -43,7 +44,7 @@ fn in_order<const CAP: usize>(
     let mut stays = Vec::with_capacity(alloc, slots.len())?;
     for slot in slots {
         match slot {
-            Some(stay) => put_stay(&mut stays, stay)?,
+            Some(stay) => put_stay(&mut stays, stay.into_inner())?,
             None => return Err(Stop::Failed),
         }
     }

@@ -1,17 +1,19 @@
 //! The threads of a run. First they play the stays that leave, each thread with blocks of its own;
 //! then the others, whose blocks fit the pool together. What no thread has played, the caller plays.
-ghost use Rattle.std.specs.Prelude.{◌≡◌, ◌<◌, ◌++◌, ◌∷◌, [], All, None, Some, IfErr, IfOk, OnOk, length, slice_set};
+ghost use Rattle.std.specs.Prelude.{◌≡◌, ◌+◌, ◌<◌, ◌≤◌, ◌++◌, ◌∷◌, [], if◌then◌else◌, All, None, Some, IfErr, IfOk, OnOk, is_some, length, min, slice_index_or, slice_set};
+ghost use Rattle.std.specs.List.{filter};
+ghost use Rattle.bs_workers.specs.inner.PlayedRows.{is_among, is_other, rows_among};
 ghost use Rattle.bs_workers.specs.inner.Stays.{ArePlayedStays, IsPlayedStay};
 ghost use Rattle.bs_workers.specs.inner.Stops.{IsStopCause};
 ghost use Rattle.bs_workers.specs.declared.stop.Stop.TheVariants as reason;
 
 use crate::act::only_mover;
+use crate::boxed::BoxedStay;
 use crate::gate::Gate;
 use crate::player::{Lone, Player, needed};
 use crate::stop::Stop;
 use crate::turns::{Lot, Turns};
 use bs_block::Block;
-use bs_sched::LoneStay;
 use std::alloc::{AllocError, Global};
 use std::thread::{Threads, map_indices};
 
@@ -42,9 +44,13 @@ fn draw<const CAP: usize>(
     alloc: Global,
     free: &mut Vec<Block<CAP>>,
     many: usize,
-) -> Result<Vec<Block<CAP>>, AllocError> {
-    let mut drawn = Vec::with_capacity(alloc, many.min(free.len()))?;
-    for _ in 0..many.min(free.len()) {
+) -> Result<Vec<Block<CAP>>, AllocError>
+    ensures many { IfOk result (λ drawn. length drawn.items ≡ min many (length free.old.items)) }
+    ensures left { IfOk result (λ drawn. length drawn.items + length free.new.items ≡ length free.old.items) }
+{
+    let count = many.min(free.len());
+    let mut drawn = Vec::with_capacity(alloc, count)?;
+    for _ in 0..count {
         if let Some(block) = free.pop() {
             drawn.push(block)?;
         }
@@ -56,7 +62,9 @@ fn draw<const CAP: usize>(
 fn take_back<const CAP: usize>(
     free: &mut Vec<Block<CAP>>,
     lots: Vec<Lot<CAP>>,
-) -> Result<(), AllocError> {
+) -> Result<(), AllocError>
+    ensures { OnOk result (length free.old.items ≤ length free.new.items) }
+{
     for lot in lots {
         if let Some(mut blocks) = lot.into_blocks() {
             free.append(&mut blocks)?;
@@ -68,7 +76,7 @@ fn take_back<const CAP: usize>(
 /// The stay of each row, once it was played, and the blocks that no stay has.
 #[derive(Drop)]
 pub(crate) struct Table<const CAP: usize> {
-    pub(crate) slots: Vec<Option<LoneStay<CAP>>>,
+    pub(crate) slots: Vec<Option<BoxedStay<CAP>>>,
     pub(crate) free: Vec<Block<CAP>>,
 }
 
@@ -99,29 +107,58 @@ impl<const CAP: usize> Table<CAP> {
     }
 
     /// Whether the stay of that row was played.
-    fn has(&self, row: usize) -> bool {
+    fn has(&self, row: usize) -> bool
+        ensures { result ≡ is_some (slice_index_or self.now.slots.items row None) }
+    {
         row < self.slots.len() && self.slots[row].is_some()
     }
 }
 
+/// Adds the row, if it is one of those.
+fn put_row(rows: &mut Vec<usize>, row: usize, is_one: bool) -> Result<(), AllocError>
+    ensures { OnOk result (rows.new.items ≡ rows.old.items ++ (if is_one then row ∷ [] else [])) }
+{
+    if is_one {
+        rows.push(row)?;
+    }
+    Ok(())
+}
+
+/// Whether a stay is played with those that leave, or with those that do not.
+fn is_among(leaves: bool, leaving: bool) -> bool
+    ensures { result ≡ is_among leaving leaves }
+{
+    leaves == leaving
+}
+
 /// The rows of the stays that leave, or of those that do not.
-fn rows_of(alloc: Global, leaves: &[bool], leaving: bool) -> Result<Vec<usize>, AllocError> {
+fn rows_of(alloc: Global, leaves: &[bool], leaving: bool) -> Result<Vec<usize>, AllocError>
+    ensures { IfOk result (λ rows. rows.items ≡ rows_among leaves.now leaving) }
+{
     let mut rows = Vec::with_capacity(alloc, leaves.len())?;
     for row in 0..leaves.len() {
-        if leaves[row] == leaving {
-            rows.push(row)?;
-        }
+        put_row(&mut rows, row, is_among(leaves[row], leaving))?;
     }
     Ok(rows)
 }
 
+/// Whether the row is another than that one.
+fn is_other(left: Option<usize>, row: usize) -> bool
+    ensures { result ≡ is_other left row }
+{
+    match left {
+        Some(left) => row != left,
+        None => true,
+    }
+}
+
 /// The rows without that one.
-fn without(alloc: Global, rows: &[usize], left: Option<usize>) -> Result<Vec<usize>, AllocError> {
+fn without(alloc: Global, rows: &[usize], left: Option<usize>) -> Result<Vec<usize>, AllocError>
+    ensures { IfOk result (λ others. others.items ≡ filter (is_other left) rows.now) }
+{
     let mut others = Vec::with_capacity(alloc, rows.len())?;
     for row in rows {
-        if left != Some(*row) {
-            others.push(*row)?;
-        }
+        put_row(&mut others, *row, is_other(left, *row))?;
     }
     Ok(others)
 }
@@ -244,7 +281,10 @@ impl<R: Threads + Sync, G: Gate> Player<'_, R, G> {
         &self,
         threads: usize,
         free: &mut Vec<Block<CAP>>,
-    ) -> Result<Vec<Lot<CAP>>, AllocError> {
+    ) -> Result<Vec<Lot<CAP>>, AllocError>
+        ensures lots { IfOk result (λ lots. length lots.items ≡ threads) }
+        ensures left { OnOk result (length free.new.items ≤ length free.old.items) }
+    {
         let share = if threads == 0 {
             0
         } else {
@@ -262,7 +302,10 @@ impl<R: Threads + Sync, G: Gate> Player<'_, R, G> {
         &self,
         rows: &[usize],
         free: &mut Vec<Block<CAP>>,
-    ) -> Result<Vec<Lot<CAP>>, AllocError> {
+    ) -> Result<Vec<Lot<CAP>>, AllocError>
+        ensures lots { IfOk result (λ lots. length lots.items ≡ length rows.now) }
+        ensures left { OnOk result (length free.new.items ≤ length free.old.items) }
+    {
         let mut lots = Vec::with_capacity(self.alloc, rows.len())?;
         for row in rows {
             let many = match self.stays.rows.get(*row) {

@@ -5,6 +5,7 @@ mod acceptable;
 mod act;
 mod alone;
 mod apart;
+mod boxed;
 mod crew;
 mod fault;
 mod gate;

@@ -11,6 +11,7 @@ ghost use Rattle.bs_workers.specs.inner.Stops.{IsStopCause};
 
 use crate::act::Act;
 use crate::alone::Alone;
+use crate::boxed::BoxedStay;
 use crate::fault::Run;
 use crate::gate::Gate;
 use crate::stays::Stays;
@@ -27,7 +28,7 @@ use std::thread::Threads;
 #[derive(Drop)]
 pub(crate) struct Lone<const CAP: usize> {
     pub(crate) row: usize,
-    pub(crate) stay: LoneStay<CAP>,
+    pub(crate) stay: BoxedStay<CAP>,
 }
 
 /// The number of blocks that the row reserves, if blocks of that capacity can hold records.
@@ -208,6 +209,7 @@ impl<R: Threads + Sync, G: Gate> Player<'_, R, G> {
         let core = self.open(self.stays.rows[row].get(), blocks)?;
         let core = self.run_row(thread, threads, row, core)?;
         let stay = self.close(row, core, blocks)?;
+        let stay = BoxedStay::new(self.alloc, stay)?;
         Ok(Lone { row, stay })
     }
 }
