@@ -11,9 +11,6 @@ use Rattle.bs_json.specs.PlanLine.{IsPlanFault, plan_line_of}
 use Rattle.bs_json.specs.declared.line.Stray.{Stray}
 use Rattle.bs_pool.specs.Ledger.{size}
 use Rattle.bs_sched.specs.Core.{CoreView, opened_core}
-use Rattle.bs_registry.specs.Blocks.{blocks_of_all}
-use Rattle.bs_sched.specs.declared.opening.Open.{Open}
-use Rattle.bs_sched.specs.declared.opening.Open.TheVariants as opening
 use Rattle.bs_workers.specs.declared.act.Act.{Act}
 use Rattle.bs_workers.specs.Acts.{are_acceptable, capacity_of_core, opened as opened_registry, rows_admitted}
 use Rattle.bs_workers.specs.Run.{IsRunOf}
@@ -21,7 +18,7 @@ use Rattle.bs_transcript.specs.Written.{Leaves as LeavesOfText}
 use Rattle.bs_transcript.specs.declared.fault.TranscriptFault.{TranscriptFault}
 use Rattle.bs_transcript.specs.declared.fault.TranscriptFault.TheVariants as transcript
 use Rattle.bs_host.specs.declared.fault.Fault.{Fault}
-use Rattle.bs_host.specs.declared.fault.Fault.TheVariants.{TooLong, Plan as OfPlan, Memory, Broken, Write}
+use Rattle.bs_host.specs.declared.fault.Fault.TheVariants.{TooLong, Plan as OfPlan, Memory, Write}
 use Rattle.bs_host.specs.declared.limits.TheConstants.{BLOCK_BYTES, MOST_FILE_BYTES}
 use Rattle.bs_host.specs.declared.route.Requests.{Requests}
 use Rattle.bs_host.specs.File.{pieces_of, first_piece, later_pieces, plan_of, rows_of}
@@ -34,12 +31,12 @@ use Rattle.bs_host.specs.inner.Routing.{IsRouted, acts_of}
 use Rattle.bs_workers.specs.Causes.{IsCause}
 use Rattle.bs_workers.specs.declared.fault.Run.{Run}
 use Rattle.bs_workers.specs.declared.fault.Run.TheVariants as run
-use Rattle.bs_host.specs.Faults.{IsFault, Leaves, fault_of, fault_of_opening, fault_of_run, fault_of_writing, refusal_of, refusal_of_plan}
+use Rattle.bs_host.specs.Faults.{IsFault, Leaves, fault_of, fault_of_run, fault_of_writing, refusal_of, refusal_of_plan}
 use Rattle.bs_host.specs.inner.Faults.{IsRefusal}
 use Rattle.bs_host.specs.Transcript.{transcript_of}
 use Rattle.bs_host.specs.inner.Transcript.{core_text_of}
 use Rattle.bs_host.proofs.ActsLaw.{acts_law}
-use Rattle.bs_host.proofs.HostedCore.{hosts_lines, is_fresh, no_refusal, opening_refusal, transcript_of_core}
+use Rattle.bs_host.proofs.HostedCore.{hosts_lines, is_fresh, no_refusal, transcript_of_core}
 
 pub refusal_of_long : (blocks : ℕ) (file : List ℕ) → MOST_FILE_BYTES < length file → refusal_of blocks file ≡ Some TooLong
 unfolding refusal_of
@@ -68,17 +65,6 @@ is_read file first rest plan short pieces read =
 
 refusal_of_read : (blocks : ℕ) (file : List ℕ) (plan : Plan) (lines : List (List ℕ)) → IsRead file plan lines → refusal_of blocks file ≡ refusal_of_plan blocks (Ok plan)
 refusal_of_read blocks file plan lines read = refusal_of_short blocks file read.short ∙ ap (refusal_of_plan blocks) read.is_plan
-
--- a core for a copy of the plan
-pub is_core_of : (blocks : ℕ) (plan copied : Plan) (workers : ℕ) (core : CoreView) → copied ≡ plan → core ≡ opened_core BLOCK_BYTES blocks workers copied.rows
-    → blocks_of_all BLOCK_BYTES copied.rows ≤ blocks → IsCoreOf blocks plan core
-is_core_of blocks plan copied workers core same opens room =
-    let is : core ≡ opened_core BLOCK_BYTES blocks workers plan.rows = opens ∙ ap (λ (plan : Plan). opened_core BLOCK_BYTES blocks workers plan.rows) same in
-    let hands : core.games.workers ≡ workers = ap (λ core. core.games.workers) is in
-    record {
-      opened = is ∙ ap (λ workers. opened_core BLOCK_BYTES blocks workers plan.rows) (sym hands);
-      room = subst (λ (plan : Plan). blocks_of_all BLOCK_BYTES plan.rows ≤ blocks) same room;
-    }
 
 -- the file is not refused; the core is opened with its plan and `blocks` blocks; the lines are
 -- those after the plan
@@ -116,11 +102,6 @@ pub for_all_blocks : {T : Type 0} (file : List ℕ) (result : Result T Fault) �
 for_all_blocks file (Ok read) refused = tt
 for_all_blocks file (Err error) refused = refused
 
-pub opening_refused : (blocks : ℕ) (plan copied : Plan) (error : Open) → copied ≡ plan
-    → (error ≡ opening.Short → blocks < blocks_of_all BLOCK_BYTES copied.rows) → IsRefusal (refusal_of_plan blocks (Ok plan)) (fault_of_opening error)
-opening_refused blocks plan copied error same few =
-    opening_refusal blocks plan error (λ is. subst (λ (plan : Plan). blocks < blocks_of_all BLOCK_BYTES plan.rows) same (few is))
-
 pub read_refused : (blocks : ℕ) (file : List ℕ) (plan : Plan) (lines : List (List ℕ)) (fault : Fault) → IsRead file plan lines
     → IsRefusal (refusal_of_plan blocks (Ok plan)) fault → IsRefusal (refusal_of blocks file) fault
 read_refused blocks file plan lines fault read is = subst (λ found. IsRefusal found fault) (sym (refusal_of_read blocks file plan lines read)) is
@@ -129,16 +110,12 @@ pub refused_is_fault : (refuses : Type 0) (refusal : Option Fault) (error : Faul
 refused_is_fault refuses refusal TooLong is = is
 refused_is_fault refuses refusal (OfPlan reason) is = is
 refused_is_fault refuses refusal Memory is = is
-refused_is_fault refuses refusal Broken is = absurd is
-refused_is_fault refuses refusal (Write written) is = absurd is
+refused_is_fault refuses refusal _ is = absurd is
 
 pub refused_leaves : {W : Type 0} (contents : W → Option (List ℕ)) (text : List ℕ) (old : W) (refusal : Option Fault) (error : Fault) → IsRefusal refusal error
     → Leaves contents text old old error
-refused_leaves contents text old refusal TooLong is = refl
-refused_leaves contents text old refusal (OfPlan reason) is = refl
-refused_leaves contents text old refusal Memory is = refl
-refused_leaves contents text old refusal Broken is = absurd is
 refused_leaves contents text old refusal (Write written) is = absurd is
+refused_leaves contents text old refusal _ is = refl
 
 -- from the opened file to its transcript
 

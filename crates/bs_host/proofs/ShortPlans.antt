@@ -1,6 +1,6 @@
 -- A row costs at most as much as the line that it was read from, and the plan of one row at most as
 -- much as the plan's line.
-use Rattle.std.proofs.Common.{◌≡◌, ℕ, zero, suc, ◌+◌, ◌≤◌, Bool, true, false, ◌&&◌, nat_lt, nat_le, List, ◌∷◌, ◌++◌, length, All, Option, Some, None, Result, Ok, Err, option_map, codes, decimal, ◌⊎◌, inl, inr, refl, ap, subst, arith, length-append}
+use Rattle.std.proofs.Common.{◌≡◌, ℕ, zero, suc, ◌+◌, ◌≤◌, Bool, true, false, ◌&&◌, nat_lt, nat_le, List, ◌∷◌, ◌++◌, length, All, Option, Some, None, Result, Ok, Err, option_map, codes, decimal, ◌⊎◌, inl, inr, refl, ap, arith, length-append}
 use Rattle.std.proofs.lemmas.Bool.{cases_Bool}
 use Rattle.std.specs.List.{list_all}
 use Rattle.std.specs.Prelude.{is_some, if◌then◌else◌}
@@ -154,9 +154,6 @@ line_costs version text = elim (cases_Bool (nat_lt MAX_LINE (length text))) [
     | inr some ↦ rw (short, some) (line_from_costs version (length text) (value_of text) (value_costs text))
   ]
 ]
-
-pub admitted_costs : (version : Version) (text : List ℕ) (row : GameRow) → line_of version text ≡ line.Admit row → row_cost row ≤ length text
-admitted_costs version text row is = subst (CostsLine (length text)) is (line_costs version text)
 
 -- plans: the text around the rows, one byte less than around one row
 
