@@ -302,6 +302,7 @@ pub fn serve_live<R: Read, W: Write>(
     ensures fault { IfErr result (λ fault. IfSome (R.remaining input.old) (λ file. IsLiveFault (live_refusal_of blocks file) fault)) }
     ensures left { IfErr result (λ fault. IfSome (R.remaining input.old) (λ file. LeavesLive blocks file (W.contents output.old) (W.contents output.new) fault)) }
     ensures refused { IfSome (R.remaining input.old) (λ file. live_refusal_of blocks file ≢ None → output.new ≡ output.old) }
+    ensures kind { IfErr result (HasLiveCause (Unit {0}) (Unit {0})) }
 {
     serve_live_by::<R, W, Unrecorded>(alloc, input, blocks, output)
 }

@@ -63,8 +63,8 @@ IsNotRead failed unread left named name (Err fault) = IsReadFault failed unread 
 abbrev pub Gains : {W : Type 0} → (W → Option (List ℕ)) → Output W → Output W → List ℕ → Type 0
 Gains contents old new = Appends (held_by contents old) (held_by contents new)
 
--- A file is served with `blocks` blocks: the whole transcript, flushed; or the whole transcript, and a
--- flush that failed; or a fault of `serve`, which is never `Broken`, what it leaves, and its cause.
+-- A file is served with `blocks` blocks: the whole transcript, flushed; or the whole transcript, and
+-- a flush that failed; or a fault of `serve`, which is never `Broken`, what it leaves, and its cause.
 abbrev pub Serves : {W : Type 0} → (W → Option (List ℕ)) → ℕ → List ℕ → Output W → Output W → Answer → Type 0
 Serves contents blocks file old new (Ok done) =
     (refusal_of blocks file ≡ None) × Gains contents old new (transcript_of blocks file) × (new.is_flushed ≡ true)

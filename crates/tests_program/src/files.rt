@@ -120,8 +120,8 @@ fn a_standard_input_that_fails(rt: HostRuntime) -> Result<(), Fail> {
     Ok(())
 }
 
-/// A named file whose reads fail is not read, whatever the standard input has; the standard input is
-/// served beside it.
+/// A named file whose reads fail is not read, whatever the standard input has; the standard input
+/// is served beside it.
 #[test]
 fn a_file_whose_reads_fail(rt: HostRuntime) -> Result<(), Fail> {
     let alloc = rt.alloc();

@@ -5,4 +5,4 @@ use Rattle.bs_program.proofs.running.play_alone.Goals as goal
 pub returns : goal.returns
 returns g c =
     inr (plays_stay _ _ _ _ _ _ _ c.in_ok-bytes.bytes.items c.in_ok-lines.lines.items _ _ _
-      (search rules) (search rules) (search rules))
+    (search rules) (search rules) (search rules))
