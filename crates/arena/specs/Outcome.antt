@@ -6,7 +6,7 @@ use Rattle.clap.specs.declared.error.ErrorKind.{ErrorKind}
 use Rattle.clap.specs.declared.error.ErrorKind.TheVariants as clap
 use Rattle.bs_program.specs.Outcome.{Answer, Concludes, Does, Named, Reports, Unread}
 use Rattle.bs_program.specs.Streams.{has_bytes, has_failed, is_flushed}
-use Rattle.bs_program.specs.declared.reason.Reason.TheVariants.{OutOfMemory, FlushFailed}
+use Rattle.bs_host.specs.declared.fault.Fault.TheVariants.{Memory, Flush}
 use Rattle.bs_program.specs.declared.stream.Output.{Output}
 use Rattle.arena.specs.Words.{asked_of, mistakes_in}
 
@@ -15,9 +15,9 @@ use Rattle.arena.specs.Words.{asked_of, mistakes_in}
 -- or a call of the output's writer failed, or memory ran out; or it is refused. The texts are
 -- clap's.
 pub record Explains {W E : Type 0} (contents : E → Option (List ℕ)) (kind : ErrorKind) (status : ℕ) (output after : Output W) (old new : Output E) : Type 0 where
-  pub memory : kind ≡ clap.OutOfMemory → Reports contents OutOfMemory status old new × (after ≡ output)
+  pub memory : kind ≡ clap.OutOfMemory → Reports contents Memory status old new × (after ≡ output)
   pub shown : (kind ≡ clap.DisplayHelp) ⊎ (kind ≡ clap.DisplayVersion)
-      → ((status ≡ 0) × (is_flushed after ≡ true) × (has_bytes after ≡ true) × (new ≡ old)) ⊎ ((Reports contents FlushFailed status old new × (has_failed after ≡ true)) ⊎ Reports contents OutOfMemory status old new)
+      → ((status ≡ 0) × (is_flushed after ≡ true) × (has_bytes after ≡ true) × (new ≡ old)) ⊎ ((Reports contents Flush status old new × (has_failed after ≡ true)) ⊎ Reports contents Memory status old new)
   pub refused : kind ≢ clap.OutOfMemory → kind ≢ clap.DisplayHelp → kind ≢ clap.DisplayVersion → (status ≡ 2) × (after ≡ output)
 
 -- The words, the first of which is the program's own name, were accepted, and their request is

@@ -9,7 +9,8 @@ ghost use Rattle.bs_program.specs.Streams.{left_in, HasReadFailed};
 mod command_line;
 mod program;
 
-use bs_program::{Input, Output, Reason, Sources, reported};
+use bs_host::Fault;
+use bs_program::{Input, Output, Sources, reported};
 use program::{arena_run, unread_words};
 use std::alloc::{AllocError, Global};
 use std::io::{Read, Write};
@@ -64,6 +65,6 @@ fn main(rt: HostRuntime) -> ExitCode {
     );
     match status {
         Ok(status) => ExitCode::from(status),
-        Err(AllocError) => ExitCode::from(reported(Reason::OutOfMemory, &mut errors)),
+        Err(AllocError) => ExitCode::from(reported(Fault::Memory, &mut errors)),
     }
 }

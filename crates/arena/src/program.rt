@@ -2,13 +2,14 @@
 ghost use Rattle.std.specs.Prelude.{◌≡◌, ◌⊎◌, true, map, IfOk, IfErr, OnOk};
 ghost use Rattle.arena.specs.Outcome.{IsDone, IsRefused, Explains};
 ghost use Rattle.bs_program.specs.Outcome.{Reports};
-ghost use Rattle.bs_program.specs.Reasons.{reason_of_words};
+ghost use Rattle.bs_program.specs.Lines.{fault_of_words};
 ghost use Rattle.bs_program.specs.Streams.{has_bytes, has_failed, is_flushed, left_in, HasReadFailed};
 ghost use Rattle.std.specs.IoError.{error_kind};
 ghost use Rattle.clap.specs.Words.{kind_of};
 
 use crate::command_line::read_words;
-use bs_program::{Input, Output, Reason, Sources, concluded, reported, run_request};
+use bs_host::Fault;
+use bs_program::{Input, Output, Sources, concluded, reported, run_request};
 use clap::error::ErrorKind;
 use std::alloc::Global;
 use std::io::{self, Read, Write};
@@ -39,11 +40,11 @@ fn explained<W: Write, E: Write>(
     ensures { Explains E.contents (kind_of error.now) result output.old output.new errors.old errors.new }
 {
     match error.kind() {
-        ErrorKind::OutOfMemory => reported(Reason::OutOfMemory, errors),
+        ErrorKind::OutOfMemory => reported(Fault::Memory, errors),
         ErrorKind::DisplayHelp | ErrorKind::DisplayVersion => match show(error, output) {
             Ok(()) => 0,
-            Err(_) if output.has_failed() => reported(Reason::FlushFailed, errors),
-            Err(_) => reported(Reason::OutOfMemory, errors),
+            Err(_) if output.has_failed() => reported(Fault::Flush, errors),
+            Err(_) => reported(Fault::Memory, errors),
         },
         _ => {
             let _ = write!(errors, "{error}");
@@ -75,11 +76,11 @@ pub fn arena_run<H: Sources + Threads + Sync, R: Read, W: Write, E: Write>(
 /// Reports why the words of the command line were not read: one of them is not UTF-8, or memory ran
 /// out. Returns the status.
 pub fn unread_words<E: Write>(error: &io::Error, errors: &mut Output<E>) -> u8
-    ensures { Reports E.contents (reason_of_words (error_kind error.now)) result errors.old errors.new }
+    ensures { Reports E.contents (fault_of_words (error_kind error.now)) result errors.old errors.new }
 {
-    let reason = match error.kind() {
-        io::ErrorKind::InvalidData => Reason::NoText,
-        _ => Reason::OutOfMemory,
+    let fault = match error.kind() {
+        io::ErrorKind::InvalidData => Fault::NoText,
+        _ => Fault::Memory,
     };
-    reported(reason, errors)
+    reported(fault, errors)
 }

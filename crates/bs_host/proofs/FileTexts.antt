@@ -11,7 +11,6 @@ use Rattle.bs_json.specs.PlanLine.{IsPlanFault, plan_line_of}
 use Rattle.bs_json.specs.declared.line.Stray.{Stray}
 use Rattle.bs_pool.specs.Ledger.{size}
 use Rattle.bs_sched.specs.Core.{CoreView, opened_core}
-use Rattle.bs_sched.specs.declared.opening.Open.TheVariants as opening
 use Rattle.bs_workers.specs.declared.act.Act.{Act}
 use Rattle.bs_workers.specs.Acts.{are_acceptable, capacity_of_core, opened as opened_registry, rows_admitted}
 use Rattle.bs_workers.specs.Run.{IsRunOf}
@@ -19,7 +18,7 @@ use Rattle.bs_transcript.specs.Written.{Leaves as LeavesOfText}
 use Rattle.bs_transcript.specs.declared.fault.TranscriptFault.{TranscriptFault}
 use Rattle.bs_transcript.specs.declared.fault.TranscriptFault.TheVariants as transcript
 use Rattle.bs_host.specs.declared.fault.Fault.{Fault}
-use Rattle.bs_host.specs.declared.fault.Fault.TheVariants.{TooLong, Plan as OfPlan, Memory, Broken, Write}
+use Rattle.bs_host.specs.declared.fault.Fault.TheVariants.{TooLong, Plan as OfPlan, Memory, Write}
 use Rattle.bs_host.specs.declared.limits.TheConstants.{BLOCK_BYTES, MOST_FILE_BYTES}
 use Rattle.bs_host.specs.declared.route.Requests.{Requests}
 use Rattle.bs_host.specs.File.{pieces_of, first_piece, later_pieces, plan_of, rows_of}
@@ -111,16 +110,12 @@ pub refused_is_fault : (refuses : Type 0) (refusal : Option Fault) (error : Faul
 refused_is_fault refuses refusal TooLong is = is
 refused_is_fault refuses refusal (OfPlan reason) is = is
 refused_is_fault refuses refusal Memory is = is
-refused_is_fault refuses refusal Broken is = absurd is
-refused_is_fault refuses refusal (Write written) is = absurd is
+refused_is_fault refuses refusal _ is = absurd is
 
 pub refused_leaves : {W : Type 0} (contents : W → Option (List ℕ)) (text : List ℕ) (old : W) (refusal : Option Fault) (error : Fault) → IsRefusal refusal error
     → Leaves contents text old old error
-refused_leaves contents text old refusal TooLong is = refl
-refused_leaves contents text old refusal (OfPlan reason) is = refl
-refused_leaves contents text old refusal Memory is = refl
-refused_leaves contents text old refusal Broken is = absurd is
 refused_leaves contents text old refusal (Write written) is = absurd is
+refused_leaves contents text old refusal _ is = refl
 
 -- from the opened file to its transcript
 

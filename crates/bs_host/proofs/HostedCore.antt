@@ -3,7 +3,7 @@ use Rattle.std.proofs.Common.{◌≡◌, ℕ, suc, ◌+◌, ◌<◌, ◌≤◌, 
 use Rattle.std.proofs.Math.ListN.{get_or-map}
 use Rattle.std.specs.Prelude.{Ok}
 use Rattle.std.specs.List.{enumerate_from, filter_map, flat_map}
-use Rattle.std.proofs.lemmas.Bool.{lt-ltb, le-ltb, cond-true, cond-false}
+use Rattle.std.proofs.lemmas.Bool.{le-ltb, cond-false}
 use Rattle.std.proofs.lemmas.List.{drop_more, length-map, length-replicate}
 use Rattle.std.proofs.lemmas.List.Concat.{flat_map-append, flat_map-cons}
 use Rattle.bs_board.specs.declared.commands.command.Command.{Command}
@@ -18,8 +18,6 @@ use Rattle.bs_sched.specs.Registry.{IsServedAlone}
 use Rattle.bs_sched.specs.Lane.{Lane, no_lane}
 use Rattle.bs_sched.specs.Machine.{lane_of}
 use Rattle.bs_registry.specs.Blocks.{blocks_of_all}
-use Rattle.bs_sched.specs.declared.opening.Open.{Open}
-use Rattle.bs_sched.specs.declared.opening.Open.TheVariants as opening
 use Rattle.bs_workers.specs.declared.act.Act.{Act}
 use Rattle.bs_workers.specs.Acts.{command_in, rows_admitted}
 use Rattle.bs_workers.specs.Run.{IsRunOf, rows_made}
@@ -29,8 +27,7 @@ use Rattle.bs_host.specs.declared.limits.TheConstants.{BLOCK_BYTES}
 use Rattle.bs_host.specs.declared.route.Route.{Route}
 use Rattle.bs_host.specs.Hosted.{Hosts, HostsLines}
 use Rattle.bs_host.specs.Routing.{acts_in, commands_to, routes_of, stays_of, strays_of}
-use Rattle.bs_host.specs.Faults.{fault_of_opening, refusal_of_plan}
-use Rattle.bs_host.specs.inner.Faults.{IsRefusal}
+use Rattle.bs_host.specs.Faults.{refusal_of_plan}
 use Rattle.bs_host.specs.Transcript.{section_of, transcript_of}
 use Rattle.bs_host.specs.inner.Transcript.{core_text_of, lane_lines_of}
 use Rattle.bs_transcript.specs.Lines.{last_line_of, reply_lines_of, section_lines_of, stray_lines_of}
@@ -39,12 +36,6 @@ use Rattle.bs_transcript.specs.declared.section.Section.{Section}
 pub no_refusal : (blocks : ℕ) (plan : Plan) → blocks_of_all BLOCK_BYTES plan.rows ≤ blocks → refusal_of_plan blocks (Ok plan) ≡ None
 no_refusal blocks plan enough =
     cond-false _ (Some (OfPlan refusal.Short)) None (le-ltb blocks (blocks_of_all BLOCK_BYTES plan.rows) enough)
-
-pub opening_refusal : (blocks : ℕ) (plan : Plan) (error : Open) → (error ≡ opening.Short → blocks < blocks_of_all BLOCK_BYTES plan.rows)
-    → IsRefusal (refusal_of_plan blocks (Ok plan)) (fault_of_opening error)
-opening_refusal blocks plan opening.Short short =
-    cond-true _ (Some (OfPlan refusal.Short)) None (lt-ltb blocks (blocks_of_all BLOCK_BYTES plan.rows) (short refl))
-opening_refusal blocks plan opening.Memory short = tt
 
 pub is_fresh : (capacity blocks workers : ℕ) (rows : List GameRow) (core : CoreView) → core ≡ opened_core capacity blocks workers rows
     → core ≡ opened_core capacity (size core.games.storage.pool) core.games.workers core.games.rows

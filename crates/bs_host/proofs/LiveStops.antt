@@ -7,8 +7,8 @@ use Rattle.std.proofs.Math.Seq.{take-append_seam, take-append-add}
 use Rattle.bs_board.specs.declared.plans.version.Version.{Version}
 use Rattle.bs_board.specs.plans.Plan.{GameRow}
 use Rattle.bs_host.specs.declared.live_host.LiveHost.{LiveHost}
-use Rattle.bs_host.specs.declared.live_fault.LiveFault.{LiveFault}
-use Rattle.bs_host.specs.declared.live_fault.LiveFault.TheVariants as live
+use Rattle.bs_host.specs.declared.fault.Fault.{Fault}
+use Rattle.bs_host.specs.declared.fault.Fault.TheVariants.{Device, Memory, Write, Flush}
 use Rattle.bs_host.specs.File.{pieces_of}
 use Rattle.bs_host.specs.Live.{answers_from, closing_behind, live_lines_of}
 use Rattle.bs_host.specs.inner.Live.{IsCutLast, IsServing, held_of}
@@ -85,15 +85,13 @@ module _ (blocks : ℕ) (version : Version) (plan : List GameRow) where
       )
 
   -- a write of the text failed
-  pub text_leaves : (lines : List (List ℕ)) (first text rest : List ℕ) (old now next : Option (List ℕ)) (count : ℕ) (fault : LiveFault)
+  pub text_leaves : (lines : List (List ℕ)) (first text rest : List ℕ) (old now next : Option (List ℕ)) (count : ℕ) (fault : Fault)
       → live_lines_of blocks version plan lines ≡ (first ++ text) ++ rest → count ≡ length first → Appends old now first
       → HasFirstAnswers blocks version plan lines old now
       → (Appends now next text → HasFirstAnswers blocks version plan lines old next ⊎ Appends old next (live_lines_of blocks version plan lines))
       → LeavesText text count now next fault → LeavesLines blocks version plan lines old next fault
-  text_leaves lines first text rest old now next count live.Device whole many wrote has flushed left = absurd left
-  text_leaves lines first text rest old now next count (live.Plan reason) whole many wrote has flushed left = absurd left
-  text_leaves lines first text rest old now next count live.Memory whole many wrote has flushed left = first_kept lines old now next has left
-  text_leaves lines first text rest old now next count (live.Write written) whole many wrote has flushed left =
+  text_leaves lines first text rest old now next count Memory whole many wrote has flushed left = first_kept lines old now next has left
+  text_leaves lines first text rest old now next count (Write written) whole many wrote has flushed left =
       let (taken, at, few, part) = left in
       let all = ap length whole in
       let place : written ≡ length first + taken = omega (arith, at, many) in
@@ -102,12 +100,11 @@ module _ (blocks : ℕ) (version : Version) (plan : List GameRow) where
         omega (arith, place, few, all, length-append (first ++ text) rest, length-append first text),
         subst (λ t. Appends old next t) (sym front) (appends_both old now next first (take taken text) wrote part),
       )
-  text_leaves lines first text rest old now next count live.Flush whole many wrote has flushed left = flushed left
+  text_leaves lines first text rest old now next count Flush whole many wrote has flushed left = flushed left
+  text_leaves lines first text rest old now next count _ whole many wrote has flushed left = absurd left
 
-  pub read_leaves : (lines : List (List ℕ)) (old new : Option (List ℕ)) (fault : LiveFault) → IsReadFault fault → HasFirstAnswers blocks version plan lines old new
+  pub read_leaves : (lines : List (List ℕ)) (old new : Option (List ℕ)) (fault : Fault) → IsReadFault fault → HasFirstAnswers blocks version plan lines old new
       → LeavesLines blocks version plan lines old new fault
-  read_leaves lines old new live.Device is has = has
-  read_leaves lines old new (live.Plan reason) is has = absurd is
-  read_leaves lines old new live.Memory is has = has
-  read_leaves lines old new (live.Write written) is has = absurd is
-  read_leaves lines old new live.Flush is has = absurd is
+  read_leaves lines old new Device is has = has
+  read_leaves lines old new Memory is has = has
+  read_leaves lines old new _ is has = absurd is

@@ -7,5 +7,6 @@ pub mod Live
 pub mod LiveFaults
 pub mod Plain
 pub mod Routing
+pub mod Statuses
 pub mod Transcript
 pub mod inner

@@ -3,44 +3,36 @@ use Rattle.std.specs.Prelude.{◌≡◌, ◌⊎◌, ℕ, ◌<◌, ◌≤◌, Lis
 use Rattle.std.specs.Io.KnownBytes.{Appends, Keeps}
 use Rattle.bs_board.specs.declared.plans.version.Version.{Version}
 use Rattle.bs_board.specs.plans.Plan.{GameRow}
-use Rattle.bs_json.specs.declared.plan.PlanFault.{PlanFault}
-use Rattle.bs_json.specs.declared.plan.PlanFault.TheVariants as plan
 use Rattle.bs_host.specs.declared.fault.Fault.{Fault}
-use Rattle.bs_host.specs.declared.fault.Fault.TheVariants.{Plan as OfPlan}
-use Rattle.bs_host.specs.declared.fault.PlanRefusal.TheVariants as refusal
-use Rattle.bs_host.specs.declared.live_fault.LiveFault.{LiveFault}
-use Rattle.bs_host.specs.declared.live_fault.LiveFault.TheVariants as live
+use Rattle.bs_host.specs.declared.fault.Fault.TheVariants.{Device, Plan as OfPlan, Memory, Write, Flush}
 use Rattle.bs_host.specs.Faults.{refusal_of_plan}
 use Rattle.bs_host.specs.File.{later_pieces, pieces_of, plan_of, rows_of, version_of}
 use Rattle.bs_host.specs.Live.{answers_from, live_of}
-
-abbrev pub live_fault_of_plan : PlanFault → LiveFault
-live_fault_of_plan plan.Malformed = live.Plan refusal.Malformed
-live_fault_of_plan plan.BadRow = live.Plan refusal.BadRow
-live_fault_of_plan plan.TooMany = live.Plan refusal.TooMany
-live_fault_of_plan plan.Memory = live.Memory
 
 -- the first reason against serving the file live with `blocks` blocks: a live host refuses only
 -- plans
 abbrev pub live_refusal_of : ℕ → List ℕ → Option Fault
 live_refusal_of blocks file = refusal_of_plan blocks (plan_of file)
 
--- like `IsLiveRefusal`; a writer fails only if the plan is not refused, and a reader at any time
-abbrev pub IsLiveFault : Option Fault → LiveFault → Type 0
-IsLiveFault refusal live.Device = Unit {0}
-IsLiveFault refusal (live.Plan reason) = refusal ≡ Some (OfPlan reason)
-IsLiveFault refusal live.Memory = Unit {0}
-IsLiveFault refusal (live.Write written) = refusal ≡ None
-IsLiveFault refusal live.Flush = refusal ≡ None
+-- What `serve_live` may return: a plan is refused for the first reason; a writer fails only if there
+-- is none, and a reader at any time. Nothing is claimed of `Memory`.
+abbrev pub IsLiveFault : Option Fault → Fault → Type 0
+IsLiveFault refusal Device = Unit {0}
+IsLiveFault refusal (OfPlan reason) = refusal ≡ Some (OfPlan reason)
+IsLiveFault refusal Memory = Unit {0}
+IsLiveFault refusal (Write written) = refusal ≡ None
+IsLiveFault refusal Flush = refusal ≡ None
+IsLiveFault refusal _ = ⊥
 
--- a fault of the reader has the first cause, and one of the writer the second; nothing is claimed
--- of the others
-abbrev pub HasLiveCause : Type 0 → Type 0 → LiveFault → Type 0
-HasLiveCause read written live.Device = read
-HasLiveCause read written (live.Plan reason) = Unit {0}
-HasLiveCause read written live.Memory = Unit {0}
-HasLiveCause read written (live.Write count) = written
-HasLiveCause read written live.Flush = written
+-- a fault of the reader has the first cause, and one of the writer the second; a live host returns
+-- no other but `Plan` and `Memory`
+abbrev pub HasLiveCause : Type 0 → Type 0 → Fault → Type 0
+HasLiveCause read written Device = read
+HasLiveCause read written (OfPlan reason) = Unit {0}
+HasLiveCause read written Memory = Unit {0}
+HasLiveCause read written (Write count) = written
+HasLiveCause read written Flush = written
+HasLiveCause read written _ = ⊥
 
 -- What the writer has after a fault.
 -- the answers to the first `count` lines after the plan
@@ -58,9 +50,10 @@ abbrev pub HasFirstAnswersOf : ℕ → List ℕ → Option (List ℕ) → Option
 HasFirstAnswersOf blocks file = HasFirstAnswers blocks (version_of file) (rows_of file) (later_pieces (pieces_of file))
 
 -- the same for a whole file; if the plan is refused, nothing is written
-abbrev pub LeavesLive : ℕ → List ℕ → Option (List ℕ) → Option (List ℕ) → LiveFault → Type 0
-LeavesLive blocks file old new live.Device = HasFirstAnswersOf blocks file old new
-LeavesLive blocks file old new (live.Plan reason) = Keeps old new
-LeavesLive blocks file old new live.Memory = HasFirstAnswersOf blocks file old new
-LeavesLive blocks file old new (live.Write written) = (written < length (live_of blocks file)) × Appends old new (take written (live_of blocks file))
-LeavesLive blocks file old new live.Flush = HasFirstAnswersOf blocks file old new ⊎ Appends old new (live_of blocks file)
+abbrev pub LeavesLive : ℕ → List ℕ → Option (List ℕ) → Option (List ℕ) → Fault → Type 0
+LeavesLive blocks file old new Device = HasFirstAnswersOf blocks file old new
+LeavesLive blocks file old new (OfPlan reason) = Keeps old new
+LeavesLive blocks file old new Memory = HasFirstAnswersOf blocks file old new
+LeavesLive blocks file old new (Write written) = (written < length (live_of blocks file)) × Appends old new (take written (live_of blocks file))
+LeavesLive blocks file old new Flush = HasFirstAnswersOf blocks file old new ⊎ Appends old new (live_of blocks file)
+LeavesLive blocks file old new _ = ⊥

@@ -1,6 +1,6 @@
 //! The lines of a file, split off one by one.
 ghost use Rattle.std.specs.Prelude.{◌≡◌, ◌==◌, ◌+◌, ◌<◌, ◌≤◌, ◌^◌, [], ◌∷◌, ◌++◌, length, option_copied, slice_index_or, true, IfSome, IsNone, None};
-ghost use Rattle.bs_host.specs.inner.Live.{IsCutFirst, IsCutLast};
+ghost use Rattle.bs_host.specs.inner.Live.{IsBegun, IsCutLast};
 ghost use Rattle.std.specs.List.{position};
 ghost use Rattle.bs_host.specs.File.{pieces_of};
 ghost use Rattle.bs_host.specs.inner.File.{pieces_after};
@@ -40,14 +40,15 @@ pub(crate) fn split_from(text: &[u8], place: usize) -> Option<(&[u8], &[u8])>
     Some((&text[..at], &text[at + 1..]))
 }
 
-/// Splits bytes at their first line feed, if there is one.
+/// The first line of some bytes, and the bytes after it if the line is complete.
 #[tactic(auto, using(crate::proofs::LivePieces::first_cut))]
-pub(crate) fn split_first(bytes: &[u8]) -> Option<(&[u8], &[u8])>
-    ensures some { IfSome result (λ cut. IsCutFirst bytes.now cut.0.now cut.1.now) }
-    ensures none { IsNone result → position (λ byte. byte == LINE_FEED) bytes.now ≡ None }
+pub(crate) fn split_first(bytes: &[u8]) -> (&[u8], Option<&[u8]>)
+    ensures { IsBegun bytes.now result.0.now (option_copied result.1) }
 {
-    let at = first_feed(bytes)?;
-    Some((&bytes[..at], &bytes[at + 1..]))
+    match first_feed(bytes) {
+        None => (bytes, None),
+        Some(at) => (&bytes[..at], Some(&bytes[at + 1..])),
+    }
 }
 
 /// The line feed at which some complete lines end: the last one within the first `most` bytes, or

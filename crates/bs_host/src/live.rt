@@ -1,6 +1,6 @@
 //! Serves a command file while it is read: answers each line as soon as it is complete. The output
 //! is a function of the lines alone: their answers, in order.
-ghost use Rattle.std.specs.Prelude.{◌≡◌, ◌≢◌, ◌↔◌, ◌==◌, ◌+◌, ◌<◌, ◌≤◌, None, IsTrue, ℕ, true, false, List, [], ◌++◌, length, Option, IfOk, IfErr, IfSome, OnOk};
+ghost use Rattle.std.specs.Prelude.{◌≡◌, ◌≢◌, ◌↔◌, ◌==◌, ◌+◌, ◌<◌, ◌≤◌, None, IsTrue, ℕ, true, false, List, [], ◌++◌, length, Option, option_copied, IfOk, IfErr, IfSome, OnOk};
 ghost use Rattle.std.specs.Io.KnownBytes.{Appends, Consumes, IsAtEnd};
 ghost use Rattle.std.specs.List.{position};
 ghost use Rattle.bs_board.specs.declared.plans.version.Version.{Version};
@@ -9,13 +9,13 @@ ghost use Rattle.bs_host.specs.declared.lines.TheConstants.{LINE_FEED};
 ghost use Rattle.bs_json.specs.declared.limits.TheConstants.{MAX_LINE};
 ghost use Rattle.bs_host.specs.File.{pieces_of};
 ghost use Rattle.bs_host.specs.Live.{LiveLaw, PrefixLaw, TranscriptLaw, live_lines_of, live_of};
-ghost use Rattle.bs_host.specs.inner.Live.{HasAnswered, IsSameText, IsServing};
+ghost use Rattle.bs_host.specs.inner.Live.{EndsServing, HasAnswered, IsSameText, KeepsServing, StopsAtEnd, StopsServing, lines_behind};
 ghost use Rattle.bs_host.specs.LiveFaults.{HasLiveCause, IsLiveFault, LeavesLive, live_refusal_of};
 ghost use Rattle.bs_host.specs.inner.LiveFaults.{IsReadFault, LeavesLines, LeavesText};
 
 use crate::calls::ReadCalls;
+use crate::fault::Fault;
 use crate::lines::{first_feed, split_first, split_some};
-use crate::live_fault::LiveFault;
 use crate::live_host::LiveHost;
 use bs_json::{MAX_LINE, TextBuffer};
 use bs_transcript::{Unrecorded, WriteCalls, write_all_by};
@@ -34,7 +34,7 @@ fn write_out<W: Write, C: WriteCalls<W>>(
     text: &[u8],
     written: &mut usize,
     output: &mut W,
-) -> Result<(), LiveFault>
+) -> Result<(), Fault>
     ensures text { OnOk result (Appends (W.contents output.old) (W.contents output.new) text.now) }
     ensures count { OnOk result (written.new ≡ written.old + length text.now) }
     ensures left { IfErr result (LeavesText text.now written.old (W.contents output.old) (W.contents output.new)) }
@@ -42,10 +42,10 @@ fn write_out<W: Write, C: WriteCalls<W>>(
 {
     let after = written.checked_add(text.len()).ok_or(AllocError)?;
     if let Err(fault) = write_all_by::<W, C>(text, output) {
-        return Err(LiveFault::Write(*written + fault.written));
+        return Err(Fault::Write(*written + fault.written));
     }
     let Ok(()) = C::flush(output) else {
-        return Err(LiveFault::Flush);
+        return Err(Fault::Flush);
     };
     *written = after;
     Ok(())
@@ -53,31 +53,27 @@ fn write_out<W: Write, C: WriteCalls<W>>(
 
 /// What is between the reader and the writer.
 #[derive(Drop)]
-struct Flow {
+pub(crate) struct Flow {
+    pub(crate) host: LiveHost,
     /// Bytes that were read: the begin of the next line.
-    pending: Vec<u8>,
+    pub(crate) pending: Vec<u8>,
     /// The memory of the answers to the lines of one read.
-    text: TextBuffer,
+    pub(crate) text: TextBuffer,
     /// The number of bytes that the writer took.
-    written: usize,
+    pub(crate) written: usize,
 }
 
 /// Answers the first complete lines of the pending bytes, and writes their answers. The rest stays
 /// pending. Returns false if no line is complete.
 fn answer_some<W: Write, C: WriteCalls<W>>(
     alloc: Global,
-    host: &mut LiveHost,
     flow: &mut Flow,
     output: &mut W,
-) -> Result<bool, LiveFault>
-    ensures serving { (blocks : ℕ) (version : Version) (plan : List GameRow) (after : List ℕ) (first : Option (List ℕ))
-        → IsServing blocks version plan after flow.old.pending.items first (W.contents output.old) flow.old.written host.old
-        → OnOk result (IsServing blocks version plan after flow.new.pending.items first (W.contents output.new) flow.new.written host.new) }
+) -> Result<bool, Fault>
+    ensures serving { OnOk result (KeepsServing flow.old (W.contents output.old) flow.new (W.contents output.new)) }
     ensures fewer { IfOk result (λ more. more ≡ true → length flow.new.pending.items < length flow.old.pending.items) }
     ensures ready { IfOk result (λ more. more ≡ false → position (λ byte. byte == LINE_FEED) flow.new.pending.items ≡ None) }
-    ensures left { IfErr result (λ fault. (blocks : ℕ) (version : Version) (plan : List GameRow) (after : List ℕ) (first : Option (List ℕ))
-        → IsServing blocks version plan after flow.old.pending.items first (W.contents output.old) flow.old.written host.old
-        → (more : List ℕ) → LeavesLines blocks version plan (pieces_of (after ++ more)) first (W.contents output.new) fault) }
+    ensures left { IfErr result (StopsServing flow.old (W.contents output.old) (W.contents output.new)) }
     ensures failed { IfErr result (HasLiveCause ⊥ (C.has_failed output.new)) }
 {
     let Some((front, back)) = split_some(&flow.pending, SOME_LINES) else {
@@ -86,7 +82,7 @@ fn answer_some<W: Write, C: WriteCalls<W>>(
     let mut rest = Vec::new(alloc);
     rest.extend_from_slice(back)?;
     flow.text.clear();
-    host.answer_all(alloc, front, &mut flow.text)?;
+    flow.host.answer_all(alloc, front, &mut flow.text)?;
     write_out::<W, C>(flow.text.as_slice(), &mut flow.written, output)?;
     flow.pending = rest;
     Ok(true)
@@ -96,22 +92,17 @@ fn answer_some<W: Write, C: WriteCalls<W>>(
 /// pending.
 fn answer_ready<W: Write, C: WriteCalls<W>>(
     alloc: Global,
-    host: &mut LiveHost,
     flow: &mut Flow,
     output: &mut W,
-) -> Result<(), LiveFault>
-    ensures serving { (blocks : ℕ) (version : Version) (plan : List GameRow) (after : List ℕ) (first : Option (List ℕ))
-        → IsServing blocks version plan after flow.old.pending.items first (W.contents output.old) flow.old.written host.old
-        → OnOk result (IsServing blocks version plan after flow.new.pending.items first (W.contents output.new) flow.new.written host.new) }
+) -> Result<(), Fault>
+    ensures serving { OnOk result (KeepsServing flow.old (W.contents output.old) flow.new (W.contents output.new)) }
     ensures ready { OnOk result (position (λ byte. byte == LINE_FEED) flow.new.pending.items ≡ None) }
-    ensures left { IfErr result (λ fault. (blocks : ℕ) (version : Version) (plan : List GameRow) (after : List ℕ) (first : Option (List ℕ))
-        → IsServing blocks version plan after flow.old.pending.items first (W.contents output.old) flow.old.written host.old
-        → (more : List ℕ) → LeavesLines blocks version plan (pieces_of (after ++ more)) first (W.contents output.new) fault) }
+    ensures left { IfErr result (StopsServing flow.old (W.contents output.old) (W.contents output.new)) }
     ensures failed { IfErr result (HasLiveCause ⊥ (C.has_failed output.new)) }
 {
     let mut more = true;
     'lines: while more {
-        more = answer_some::<W, C>(alloc, host, flow, output)?;
+        more = answer_some::<W, C>(alloc, flow, output)?;
     }
     Ok(())
 }
@@ -139,10 +130,7 @@ fn hold_line(pending: &mut Vec<u8>)
 /// Waits until a byte can be read, reads once, and appends the bytes. Returns false at the end of
 /// the input. Before the read all complete lines are answered, and of one that is not complete at
 /// most 65,537 bytes are held.
-fn read_more<R: Read, C: ReadCalls<R>>(
-    input: &mut R,
-    pending: &mut Vec<u8>,
-) -> Result<bool, LiveFault>
+fn read_more<R: Read, C: ReadCalls<R>>(input: &mut R, pending: &mut Vec<u8>) -> Result<bool, Fault>
     requires answered { position (λ byte. byte == LINE_FEED) pending.old.items ≡ None }
     requires held { length pending.old.items ≤ MAX_LINE + 1 }
     ensures bytes { OnOk result
@@ -154,7 +142,7 @@ fn read_more<R: Read, C: ReadCalls<R>>(
 {
     let mut block = [0u8; BLOCK];
     let Ok(count) = C::read(input, &mut block) else {
-        return Err(LiveFault::Device);
+        return Err(Fault::Device);
     };
     pending.extend_from_slice(&block[..count])?;
     Ok(count > 0)
@@ -163,7 +151,7 @@ fn read_more<R: Read, C: ReadCalls<R>>(
 /// Reads until the first line is complete or longer than 65,536 bytes, or until the end of the
 /// input.
 #[tactic(auto, using(crate::proofs::LiveBytes::consumes_none, crate::proofs::LiveBytes::reads_more))]
-fn read_first<R: Read, C: ReadCalls<R>>(alloc: Global, input: &mut R) -> Result<Vec<u8>, LiveFault>
+fn read_first<R: Read, C: ReadCalls<R>>(alloc: Global, input: &mut R) -> Result<Vec<u8>, Fault>
     ensures bytes { IfOk result (λ bytes. Consumes (R.remaining input.old) (R.remaining input.new) bytes.items) }
     ensures end { IfOk result (λ bytes. position (λ byte. byte == LINE_FEED) bytes.items ≡ None → length bytes.items ≤ MAX_LINE → IsAtEnd (R.remaining input.new)) }
     ensures fault { IfErr result IsReadFault }
@@ -182,21 +170,16 @@ fn read_first<R: Read, C: ReadCalls<R>>(alloc: Global, input: &mut R) -> Result<
 /// the open stays.
 fn end_live<W: Write, C: WriteCalls<W>>(
     alloc: Global,
-    host: &mut LiveHost,
     flow: &mut Flow,
     output: &mut W,
-) -> Result<(), LiveFault>
-    ensures written { (blocks : ℕ) (version : Version) (plan : List GameRow) (after : List ℕ) (first : Option (List ℕ))
-        → IsServing blocks version plan after flow.old.pending.items first (W.contents output.old) flow.old.written host.old
-        → OnOk result (Appends first (W.contents output.new) (live_lines_of blocks version plan (pieces_of after))) }
-    ensures left { IfErr result (λ fault. (blocks : ℕ) (version : Version) (plan : List GameRow) (after : List ℕ) (first : Option (List ℕ))
-        → IsServing blocks version plan after flow.old.pending.items first (W.contents output.old) flow.old.written host.old
-        → LeavesLines blocks version plan (pieces_of after) first (W.contents output.new) fault) }
+) -> Result<(), Fault>
+    ensures written { OnOk result (EndsServing flow.old (W.contents output.old) (W.contents output.new)) }
+    ensures left { IfErr result (StopsAtEnd flow.old (W.contents output.old) (W.contents output.new)) }
     ensures failed { IfErr result (HasLiveCause ⊥ (C.has_failed output.new)) }
 {
     flow.text.clear();
-    host.answer_all(alloc, &flow.pending, &mut flow.text)?;
-    host.close(alloc, &mut flow.text)?;
+    flow.host.answer_all(alloc, &flow.pending, &mut flow.text)?;
+    flow.host.close(alloc, &mut flow.text)?;
     write_out::<W, C>(flow.text.as_slice(), &mut flow.written, output)?;
     Ok(())
 }
@@ -204,31 +187,32 @@ fn end_live<W: Write, C: WriteCalls<W>>(
 /// Answers the lines after the plan as they are read. The bytes `rest` were read already.
 fn serve_lines<R: Read, W: Write, C: ReadCalls<R> + WriteCalls<W>>(
     alloc: Global,
-    host: &mut LiveHost,
+    host: LiveHost,
     rest: &[u8],
     input: &mut R,
     output: &mut W,
-) -> Result<(), LiveFault>
-    ensures written { (blocks : ℕ) (version : Version) (plan : List GameRow) → HasAnswered blocks version plan [] host.old
+) -> Result<(), Fault>
+    ensures written { (blocks : ℕ) (version : Version) (plan : List GameRow) → HasAnswered blocks version plan [] host
         → OnOk result (IfSome (R.remaining input.old) (λ left. Appends (W.contents output.old) (W.contents output.new) (live_lines_of blocks version plan (pieces_of (rest.now ++ left))))) }
-    ensures left { IfErr result (λ fault. (blocks : ℕ) (version : Version) (plan : List GameRow) → HasAnswered blocks version plan [] host.old
+    ensures left { IfErr result (λ fault. (blocks : ℕ) (version : Version) (plan : List GameRow) → HasAnswered blocks version plan [] host
         → IfSome (R.remaining input.old) (λ left. LeavesLines blocks version plan (pieces_of (rest.now ++ left)) (W.contents output.old) (W.contents output.new) fault)) }
     ensures failed { IfErr result (HasLiveCause (C.ReadCalls.has_failed input.new) (C.WriteCalls.has_failed output.new)) }
 {
     let mut flow = Flow {
+        host,
         pending: Vec::from_slice(alloc, rest)?,
         text: TextBuffer::new(alloc),
         written: 0,
     };
     for _ in 0..u64::MAX {
-        answer_ready::<W, C>(alloc, host, &mut flow, output)?;
+        answer_ready::<W, C>(alloc, &mut flow, output)?;
         hold_line(&mut flow.pending);
         if !read_more::<R, C>(input, &mut flow.pending)? {
-            end_live::<W, C>(alloc, host, &mut flow, output)?;
+            end_live::<W, C>(alloc, &mut flow, output)?;
             return Ok(());
         }
     }
-    Err(LiveFault::Memory)
+    Err(Fault::Memory)
 }
 
 /// Writes the final lines of the stays of a file without lines after its plan.
@@ -236,7 +220,7 @@ fn end_plan<W: Write, C: WriteCalls<W>>(
     alloc: Global,
     host: &LiveHost,
     output: &mut W,
-) -> Result<(), LiveFault>
+) -> Result<(), Fault>
     ensures written { (blocks : ℕ) (version : Version) (plan : List GameRow) → HasAnswered blocks version plan [] host.now
         → OnOk result (Appends (W.contents output.old) (W.contents output.new) (live_lines_of blocks version plan [])) }
     ensures left { IfErr result (λ fault. (blocks : ℕ) (version : Version) (plan : List GameRow) → HasAnswered blocks version plan [] host.now
@@ -250,6 +234,33 @@ fn end_plan<W: Write, C: WriteCalls<W>>(
     Ok(())
 }
 
+/// Answers the lines after the plan, of which the bytes `rest` were read already. If the plan's line
+/// is not complete, there are none.
+fn serve_rest<R: Read, W: Write, C: ReadCalls<R> + WriteCalls<W>>(
+    alloc: Global,
+    host: LiveHost,
+    rest: Option<&[u8]>,
+    input: &mut R,
+    output: &mut W,
+) -> Result<(), Fault>
+    ensures written { (blocks : ℕ) (version : Version) (plan : List GameRow) → HasAnswered blocks version plan [] host
+        → OnOk result (IfSome (R.remaining input.old) (λ left. Appends (W.contents output.old) (W.contents output.new) (live_lines_of blocks version plan (lines_behind (option_copied rest.entry) left)))) }
+    ensures left { IfErr result (λ fault. (blocks : ℕ) (version : Version) (plan : List GameRow) → HasAnswered blocks version plan [] host
+        → IfSome (R.remaining input.old) (λ left. LeavesLines blocks version plan (lines_behind (option_copied rest.entry) left) (W.contents output.old) (W.contents output.new) fault)) }
+    ensures failed { IfErr result (HasLiveCause (C.ReadCalls.has_failed input.new) (C.WriteCalls.has_failed output.new)) }
+{
+    match rest {
+        Some(rest) => {
+            serve_lines::<R, W, C>(alloc, host, rest, input, output)?;
+            Ok(())
+        }
+        None => {
+            end_plan::<W, C>(alloc, &host, output)?;
+            Ok(())
+        }
+    }
+}
+
 /// Like `serve_live`, by the calls `C`: a fault of the reader or of the writer is a call that
 /// failed.
 pub fn serve_live_by<R: Read, W: Write, C: ReadCalls<R> + WriteCalls<W>>(
@@ -257,7 +268,7 @@ pub fn serve_live_by<R: Read, W: Write, C: ReadCalls<R> + WriteCalls<W>>(
     input: &mut R,
     blocks: usize,
     output: &mut W,
-) -> Result<(), LiveFault>
+) -> Result<(), Fault>
     ensures served { OnOk result (IfSome (R.remaining input.old) (λ file. live_refusal_of blocks file ≡ None)) }
     ensures written { OnOk result (IfSome (R.remaining input.old) (λ file. Appends (W.contents output.old) (W.contents output.new) (live_of blocks file))) }
     ensures fault { IfErr result (λ fault. IfSome (R.remaining input.old) (λ file. IsLiveFault (live_refusal_of blocks file) fault)) }
@@ -266,18 +277,10 @@ pub fn serve_live_by<R: Read, W: Write, C: ReadCalls<R> + WriteCalls<W>>(
     ensures failed { IfErr result (HasLiveCause (C.ReadCalls.has_failed input.new) (C.WriteCalls.has_failed output.new)) }
 {
     let bytes = read_first::<R, C>(alloc, input)?;
-    match split_first(&bytes) {
-        Some((first, rest)) => {
-            let mut host = LiveHost::open(alloc, first, blocks)?;
-            serve_lines::<R, W, C>(alloc, &mut host, rest, input, output)?;
-            Ok(())
-        }
-        None => {
-            let host = LiveHost::open(alloc, &bytes, blocks)?;
-            end_plan::<W, C>(alloc, &host, output)?;
-            Ok(())
-        }
-    }
+    let (first, rest) = split_first(&bytes);
+    let host = LiveHost::open(alloc, first, blocks)?;
+    serve_rest::<R, W, C>(alloc, host, rest, input, output)?;
+    Ok(())
 }
 
 /// Serves a command file with `blocks` blocks of memory while it is read. After each read it
@@ -293,12 +296,13 @@ pub fn serve_live<R: Read, W: Write>(
     input: &mut R,
     blocks: usize,
     output: &mut W,
-) -> Result<(), LiveFault>
+) -> Result<(), Fault>
     ensures served { OnOk result (IfSome (R.remaining input.old) (λ file. live_refusal_of blocks file ≡ None)) }
     ensures written { OnOk result (IfSome (R.remaining input.old) (λ file. Appends (W.contents output.old) (W.contents output.new) (live_of blocks file))) }
     ensures fault { IfErr result (λ fault. IfSome (R.remaining input.old) (λ file. IsLiveFault (live_refusal_of blocks file) fault)) }
     ensures left { IfErr result (λ fault. IfSome (R.remaining input.old) (λ file. LeavesLive blocks file (W.contents output.old) (W.contents output.new) fault)) }
     ensures refused { IfSome (R.remaining input.old) (λ file. live_refusal_of blocks file ≢ None → output.new ≡ output.old) }
+    ensures kind { IfErr result (HasLiveCause (Unit {0}) (Unit {0})) }
 {
     serve_live_by::<R, W, Unrecorded>(alloc, input, blocks, output)
 }

@@ -10,10 +10,9 @@ ghost use Rattle.bs_host.specs.inner.OpenStays.{may_follow};
 ghost use Rattle.bs_registry.specs.Registry.{seen};
 ghost use Rattle.bs_host.specs.inner.LiveHost.{live_after, live_end, live_text, live_texts, stays_then, text_then};
 
-use crate::fault::PlanRefusal;
+use crate::fault::{Fault, PlanRefusal};
 use crate::limits::BLOCK_BYTES;
 use crate::lines::split_line;
-use crate::live_fault::LiveFault;
 use crate::live_stays::{LiveStays, answer_in, list_stays, open_stay, push_final_of, push_finals};
 use crate::parse::parse_line;
 use crate::route::{Route, route_line};
@@ -56,14 +55,14 @@ impl LiveHost {
     /// Opens the plan in the first line of a file. Checks the plan and the number of blocks, and
     /// returns the first fault.
     #[tactic(auto, using(bs_registry::proofs::Planned::listed_rows))]
-    pub(crate) fn open(alloc: Global, first: &[u8], blocks: usize) -> Result<LiveHost, LiveFault>
+    pub(crate) fn open(alloc: Global, first: &[u8], blocks: usize) -> Result<LiveHost, Fault>
         ensures opened { IfOk result (HasOpened blocks first.now) }
         ensures fault { IfErr result (IsLiveRefusal (refusal_of_plan blocks (plan_line_of first.now))) }
     {
         let plan = read_plan(alloc, first)?;
         let rows = plan.rows.as_slice();
         if blocks_of_all(BLOCK_BYTES, rows) > blocks {
-            return Err(LiveFault::Plan(PlanRefusal::Short));
+            return Err(Fault::Plan(PlanRefusal::Short));
         }
         Ok(LiveHost {
             blocks,

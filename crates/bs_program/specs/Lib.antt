@@ -1,5 +1,5 @@
 pub mod Asked
+pub mod Lines
 pub mod Outcome
-pub mod Reasons
 pub mod Streams
 pub mod inner

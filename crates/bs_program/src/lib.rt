@@ -2,10 +2,8 @@
 //! and returns the exit status.
 #![tactic(auto)]
 
-mod failure;
 mod input;
 mod opened;
-mod reason;
 mod recorded;
 mod report;
 mod request;
@@ -13,9 +11,7 @@ mod running;
 mod source;
 mod stream;
 
-pub use failure::Failure;
 pub use input::Input;
-pub use reason::Reason;
 pub use report::{concluded, reported};
 pub use request::{Request, STANDARD_INPUT, Serving, Solo};
 pub use running::run_request;

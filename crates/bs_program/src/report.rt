@@ -1,12 +1,11 @@
 //! The exit status, and the line on the errors.
 ghost use Rattle.std.specs.Prelude.{◌++◌, codes, decimal};
 ghost use Rattle.bs_program.specs.Outcome.{Concludes, Puts, Reports};
-ghost use Rattle.bs_program.specs.Reasons.{line_of, plan_text_of, text_of};
+ghost use Rattle.bs_host.specs.Statuses.{plan_text_of, text_of};
+ghost use Rattle.bs_program.specs.Lines.{line_of};
 
-use crate::failure::Failure;
-use crate::reason::Reason;
 use crate::stream::Output;
-use bs_host::PlanRefusal;
+use bs_host::{Fault, PlanRefusal};
 use itoa::Buffer;
 use std::io::Write;
 
@@ -44,46 +43,46 @@ fn put_written<E: Write>(written: usize, errors: &mut Output<E>)
     put(b" bytes", errors);
 }
 
-fn put_text<E: Write>(reason: Reason, errors: &mut Output<E>)
-    ensures { Puts E.contents (text_of reason) errors.old errors.new }
+fn put_text<E: Write>(fault: Fault, errors: &mut Output<E>)
+    ensures { Puts E.contents (text_of fault) errors.old errors.new }
 {
-    match reason {
-        Reason::NoText => put(b"a word of the command line is no UTF-8", errors),
-        Reason::CannotRead => put(b"cannot read the file", errors),
-        Reason::FileTooLong => put(b"file too long", errors),
-        Reason::Plan(refusal) => put_plan(refusal, errors),
-        Reason::NoSuchGame => put(b"no such game", errors),
-        Reason::OutOfMemory => put(b"out of memory", errors),
-        Reason::WriteFailed(written) => put_written(written, errors),
-        Reason::FlushFailed => put(b"flush failed", errors),
-        Reason::Broken => put(b"broken", errors),
+    match fault {
+        Fault::NoText => put(b"a word of the command line is no UTF-8", errors),
+        Fault::Device => put(b"cannot read the file", errors),
+        Fault::TooLong => put(b"file too long", errors),
+        Fault::Plan(refusal) => put_plan(refusal, errors),
+        Fault::NoSuchGame => put(b"no such game", errors),
+        Fault::Memory => put(b"out of memory", errors),
+        Fault::Write(written) => put_written(written, errors),
+        Fault::Flush => put(b"flush failed", errors),
+        Fault::Broken => put(b"broken", errors),
     }
 }
 
-/// Writes the line of a reason.
+/// Writes the line of a fault.
 #[tactic(auto, using(crate::proofs::Written::puts_three))]
-fn put_line<E: Write>(reason: Reason, errors: &mut Output<E>)
-    ensures { Puts E.contents (line_of reason) errors.old errors.new }
+fn put_line<E: Write>(fault: Fault, errors: &mut Output<E>)
+    ensures { Puts E.contents (line_of fault) errors.old errors.new }
 {
     put(b"arena: ", errors);
-    put_text(reason, errors);
+    put_text(fault, errors);
     put(b"\n", errors);
 }
 
-/// Writes the line of a reason, and returns its status.
-pub fn reported<E: Write>(reason: Reason, errors: &mut Output<E>) -> u8
-    ensures { Reports E.contents reason result errors.old errors.new }
+/// Writes the line of a fault, and returns its status.
+pub fn reported<E: Write>(fault: Fault, errors: &mut Output<E>) -> u8
+    ensures { Reports E.contents fault result errors.old errors.new }
 {
-    put_line(reason, errors);
-    reason.status()
+    put_line(fault, errors);
+    fault.status()
 }
 
-/// Returns the status of an answer to a request. Writes the line of a failure.
-pub fn concluded<E: Write>(answer: Result<(), Failure>, errors: &mut Output<E>) -> u8
+/// Returns the status of an answer to a request. Writes the line of a fault.
+pub fn concluded<E: Write>(answer: Result<(), Fault>, errors: &mut Output<E>) -> u8
     ensures { Concludes E.contents answer result errors.old errors.new }
 {
     match answer {
         Ok(()) => 0,
-        Err(failure) => reported(failure.reason(), errors),
+        Err(fault) => reported(fault, errors),
     }
 }

@@ -5,14 +5,13 @@ ghost use Rattle.bs_program.specs.Outcome.{Does, IsInput, IsReadFault, PlaysAlon
 ghost use Rattle.bs_program.specs.Streams.{left_in, HasReadFailed};
 ghost use Rattle.bs_program.specs.inner.Outcome.{Finishes};
 
-use crate::failure::Failure;
 use crate::input::Input;
 use crate::opened::read_named;
 use crate::recorded::Recorded;
 use crate::request::{Request, STANDARD_INPUT, Serving, Solo};
 use crate::source::Sources;
 use crate::stream::Output;
-use bs_host::{ReadFault, cut, read_input_by, serve_by, serve_live_by};
+use bs_host::{Fault, cut, read_input_by, serve_by, serve_live_by};
 use bs_workers::OpenGate;
 use std::alloc::Global;
 use std::io::{Read, Write};
@@ -35,32 +34,33 @@ fn read_file<S: Sources, R: Read>(
     alloc: Global,
     name: &str,
     input: &mut Input<R>,
-) -> Result<Vec<u8>, ReadFault>
+) -> Result<Vec<u8>, Fault>
     ensures bytes { IfOk result (λ bytes. IsInput (left_in R.remaining input.old) (S.named rt.now) name.now bytes.items) }
     ensures fault { IfErr result (IsReadFault (HasReadFailed input.new) (S.unread rt.now) (left_in R.remaining input.old) (S.named rt.now) name.now) }
 {
     if name == STANDARD_INPUT {
-        return read_input_by::<Input<R>, Recorded>(alloc, input);
+        return Ok(read_input_by::<Input<R>, Recorded>(alloc, input)?);
     }
-    read_named(rt, alloc, name)
+    Ok(read_named(rt, alloc, name)?)
 }
 
 /// Flushes the output.
-fn finish<W: Write>(output: &mut Output<W>) -> Result<(), Failure>
+fn finish<W: Write>(output: &mut Output<W>) -> Result<(), Fault>
     ensures { Finishes W.contents output.old output.new result }
 {
-    output.flush().map_err(|_| Failure::Flush)
+    output.flush().map_err(|_| Fault::Flush)
 }
 
 /// Writes the transcript of a file, then flushes the output. The core is left to the system, which
 /// frees its memory at once when the program ends; after a fault it is dropped.
+#[tactic(auto, using(crate::proofs::Served::serve_fails))]
 fn serve_bytes<H: Threads + Sync, W: Write>(
     rt: &H,
     alloc: Global,
     bytes: &[u8],
     with: Resources,
     output: &mut Output<W>,
-) -> Result<(), Failure>
+) -> Result<(), Fault>
     ensures { Serves W.contents with.blocks bytes.now output.old output.new result }
 {
     let blocks = usize::from(with.blocks);
@@ -73,7 +73,7 @@ fn serve_bytes<H: Threads + Sync, W: Write>(
             mem::forget(core);
             Ok(())
         }
-        Err(fault) => Err(Failure::Serve(fault)),
+        Err(fault) => Err(fault),
     }
 }
 
@@ -84,10 +84,10 @@ fn serve_file<H: Sources + Threads + Sync, R: Read, W: Write>(
     request: Serving<'_>,
     input: &mut Input<R>,
     output: &mut Output<W>,
-) -> Result<(), Failure>
+) -> Result<(), Fault>
     ensures { ServesFile W.contents (HasReadFailed input.new) (H.unread rt.now) (left_in R.remaining input.old) (H.named rt.now) request.entry.file.now request.entry.blocks output.old output.new result }
 {
-    let bytes = read_file(rt, alloc, request.file, input).map_err(Failure::Read)?;
+    let bytes = read_file(rt, alloc, request.file, input)?;
     let with = Resources {
         blocks: request.blocks,
         workers: request.workers,
@@ -102,13 +102,12 @@ fn play_alone<H: Sources + Threads + Sync, R: Read, W: Write>(
     request: Solo<'_>,
     input: &mut Input<R>,
     output: &mut Output<W>,
-) -> Result<(), Failure>
+) -> Result<(), Fault>
     ensures { PlaysAlone W.contents (HasReadFailed input.new) (H.unread rt.now) (left_in R.remaining input.old) (H.named rt.now) request.entry.file.now (record { game = request.entry.game.now; nth = request.entry.stay }) request.entry.blocks output.old output.new result }
 {
-    let bytes = read_file(rt, alloc, request.file, input).map_err(Failure::Read)?;
+    let bytes = read_file(rt, alloc, request.file, input)?;
     let blocks = usize::from(request.blocks);
-    let lines = cut(alloc, &bytes, blocks, request.game, request.stay as usize);
-    let lines = lines.map_err(Failure::Cut)?;
+    let lines = cut(alloc, &bytes, blocks, request.game, request.stay as usize)?;
     let with = Resources {
         blocks: request.blocks,
         workers: LONE_WORKER,
@@ -122,12 +121,11 @@ fn play_live<R: Read, W: Write>(
     blocks: u16,
     input: &mut Input<R>,
     output: &mut Output<W>,
-) -> Result<(), Failure>
+) -> Result<(), Fault>
     ensures { ServesLive W.contents (HasReadFailed input.new) (left_in R.remaining input.old) blocks output.old output.new result }
 {
     let blocks = usize::from(blocks);
-    let served = serve_live_by::<Input<R>, Output<W>, Recorded>(alloc, input, blocks, output);
-    served.map_err(Failure::Live)?;
+    serve_live_by::<Input<R>, Output<W>, Recorded>(alloc, input, blocks, output)?;
     finish(output)
 }
 
@@ -138,7 +136,7 @@ pub fn run_request<H: Sources + Threads + Sync, R: Read, W: Write>(
     request: Request<'_>,
     input: &mut Input<R>,
     output: &mut Output<W>,
-) -> Result<(), Failure>
+) -> Result<(), Fault>
     ensures { Does W.contents (HasReadFailed input.new) (H.unread rt.now) (left_in R.remaining input.old) (H.named rt.now) (asked_for request.entry) output.old output.new result }
 {
     match request {

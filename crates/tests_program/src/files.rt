@@ -1,7 +1,7 @@
 //! Files by their names, and want of memory.
 use crate::devices::{Device, Shelf, Unreadable};
-use bs_host::ReadFault;
-use bs_program::{Failure, Input, Output, Request, Serving, Solo, run_request};
+use bs_host::Fault;
+use bs_program::{Input, Output, Request, Serving, Solo, run_request};
 use bs_samples::{holds, same};
 use std::alloc::Global;
 use std::io::ErrorKind;
@@ -22,7 +22,7 @@ fn served<H: Threads + Sync>(
     request: Request<'_>,
     error: ErrorKind,
     device: &mut Device,
-) -> Result<(), Failure> {
+) -> Result<(), Fault> {
     let system = Shelf {
         rt,
         name: "games.jsonl",
@@ -87,8 +87,8 @@ fn a_file_that_cannot_be_opened(rt: HostRuntime) -> Result<(), Fail> {
         let mut device = device(alloc);
         let answer = served(&rt, alloc, serve("other.jsonl"), error, &mut device);
         let seen = match answer {
-            Err(Failure::Read(ReadFault::Device)) => Some(false),
-            Err(Failure::Read(ReadFault::Memory)) => Some(true),
+            Err(Fault::Device) => Some(false),
+            Err(Fault::Memory) => Some(true),
             _ => None,
         };
         same("memory", seen, Some(is_memory))?;
@@ -113,15 +113,15 @@ fn a_standard_input_that_fails(rt: HostRuntime) -> Result<(), Fail> {
         let mut input = Input::new(Unreadable);
         let mut output = Output::new(&mut device);
         let answer = run_request(&system, alloc, serve(file), &mut input, &mut output);
-        let fails = matches!(answer, Err(Failure::Read(ReadFault::Device)));
+        let fails = matches!(answer, Err(Fault::Device));
         same("cannot be read", fails, !is_read)?;
         same("is done", answer.is_ok(), is_read)?;
     }
     Ok(())
 }
 
-/// A named file whose reads fail is not read, whatever the standard input has; the standard input is
-/// served beside it.
+/// A named file whose reads fail is not read, whatever the standard input has; the standard input
+/// is served beside it.
 #[test]
 fn a_file_whose_reads_fail(rt: HostRuntime) -> Result<(), Fail> {
     let alloc = rt.alloc();
@@ -137,7 +137,7 @@ fn a_file_whose_reads_fail(rt: HostRuntime) -> Result<(), Fail> {
         let mut input = Input::new(PLAN_OF_B.as_bytes());
         let mut output = Output::new(&mut device);
         let answer = run_request(&system, alloc, serve(file), &mut input, &mut output);
-        let fails = matches!(answer, Err(Failure::Read(ReadFault::Device)));
+        let fails = matches!(answer, Err(Fault::Device));
         same("cannot be read", fails, !is_read)?;
         same("is done", answer.is_ok(), is_read)?;
         same("is written", device.taken.is_empty(), !is_read)?;

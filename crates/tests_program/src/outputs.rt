@@ -1,7 +1,7 @@
 //! Outputs that count their flushes, and outputs that fail.
 use crate::devices::Device;
 use bs_host::Fault;
-use bs_program::{Failure, Input, Output, Request, Serving, Solo, Sources, run_request};
+use bs_program::{Input, Output, Request, Serving, Solo, Sources, run_request};
 use bs_samples::{holds, same};
 use std::alloc::Global;
 use std::io::Write;
@@ -73,7 +73,7 @@ fn an_output_that_cannot_be_flushed(rt: HostRuntime) -> Result<(), Fail> {
     let mut input = Input::new(TWO_GAMES.as_bytes());
     let mut output = Output::new(&mut device);
     let answer = run_request(&rt, alloc, SERVE, &mut input, &mut output);
-    holds("a flush that failed", matches!(answer, Err(Failure::Flush)))?;
+    holds("a flush that failed", matches!(answer, Err(Fault::Flush)))?;
     same(
         "the text",
         device.taken.as_slice(),
@@ -90,7 +90,7 @@ fn an_output_that_fails(rt: HostRuntime) -> Result<(), Fail> {
         let mut input = Input::new(TWO_GAMES.as_bytes());
         let mut output = Output::new(&mut device);
         let answer = run_request(&rt, alloc, SERVE, &mut input, &mut output);
-        let Err(Failure::Serve(Fault::Write(written))) = answer else {
+        let Err(Fault::Write(written)) = answer else {
             return Err(Fail::from("a write that failed"));
         };
         same("written", written, room)?;

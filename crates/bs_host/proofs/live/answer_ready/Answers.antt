@@ -1,9 +1,5 @@
-use Rattle.std.proofs.Common.{◌≡◌, true, false, ℕ, List, ◌++◌, Option, rules}
-use Rattle.bs_board.specs.declared.plans.version.Version.{Version}
-use Rattle.bs_board.specs.plans.Plan.{GameRow}
-use Rattle.bs_host.specs.File.{pieces_of}
-use Rattle.bs_host.specs.inner.Live.{IsServing}
-use Rattle.bs_host.specs.inner.LiveFaults.{LeavesLines}
+use Rattle.std.proofs.Common.{◌≡◌, true, false, rules}
+use Rattle.bs_host.specs.inner.Live.{StopsServing}
 use Rattle.bs_host.proofs.live.answer_ready.Goals as goal
 
 pub lines-init : goal.lines-init
@@ -23,9 +19,7 @@ pub returns-in_err-more-clause-left : goal.returns-in_err-more-clause-left
 returns-in_err-more-clause-left g c =
     let fault = c.in_err-more.field-0.0 in
     let next = g.W.Write.contents c.answer_some.new.output in
-    let left : (blocks : ℕ) (version : Version) (plan : List GameRow) (after : List ℕ) (first : Option (List ℕ))
-    → IsServing blocks version plan after c.args.flow.now.pending.items first (g.W.Write.contents c.args.output.now) c.args.flow.now.written c.args.host.now
-    → (more : List ℕ) → LeavesLines blocks version plan (pieces_of (after ++ more)) first next fault
+    let left : StopsServing c.args.flow.now (g.W.Write.contents c.args.output.now) next fault
     = λ blocks version plan after first is.
     c.in_err-more.ensures.left blocks version plan after first (c.lines.invariant.0 blocks version plan after first is) in
     search rules

@@ -1,11 +1,8 @@
-use Rattle.std.proofs.Common.{◌≡◌, ◌+◌, [], ◌++◌, List, ℕ, Option, Err, length, refl, sym, subst, ◌∙◌, rules, inl}
-use Rattle.bs_board.specs.declared.plans.version.Version.{Version}
-use Rattle.bs_board.specs.plans.Plan.{GameRow}
-use Rattle.bs_host.specs.declared.live_fault.LiveFault.TheVariants as live
+use Rattle.std.proofs.Common.{◌≡◌, ◌+◌, [], ◌++◌, Err, length, refl, sym, subst, ◌∙◌, rules, inl}
+use Rattle.bs_host.specs.declared.fault.Fault.TheVariants.{Memory}
 use Rattle.bs_host.specs.File.{pieces_of}
 use Rattle.bs_host.specs.Live.{answers_from}
-use Rattle.bs_host.specs.inner.Live.{IsCutLast, IsServing}
-use Rattle.bs_host.specs.inner.LiveFaults.{LeavesLines}
+use Rattle.bs_host.specs.inner.Live.{IsCutLast, IsServing, StopsServing}
 use Rattle.bs_host.specs.inner.LiveHost.{live_texts}
 use Rattle.bs_host.proofs.LiveBytes.{serving_answers}
 use Rattle.bs_host.proofs.LiveStates.{answered_more, texts_are}
@@ -15,7 +12,7 @@ use Rattle.bs_host.proofs.live.answer_some.Goals as goal
 pub returns-clause-serving : goal.returns-clause-serving
 returns-clause-serving g c =
     λ blocks version plan after first is.
-    let host = c.args.host.now in
+    let host = c.args.flow.now.host in
     let new = c.answer_all.new.self in
     let pending = c.args.flow.now.pending.items in
     let front = c.in-Some.front.now in
@@ -35,29 +32,27 @@ returns-clause-serving g c =
 
 pub returns-in_err-extend_from_slice-clause-left : goal.returns-in_err-extend_from_slice-clause-left
 returns-in_err-extend_from_slice-clause-left g c =
-    let host = c.args.host.now in
+    let host = c.args.flow.now.host in
     let pending = c.args.flow.now.pending.items in
     let count = c.args.flow.now.written in
     let now = g.W.Write.contents c.args.output.now in
-    let left : (blocks : ℕ) (version : Version) (plan : List GameRow) (after : List ℕ) (first : Option (List ℕ))
-    → IsServing blocks version plan after pending first now count host → (more : List ℕ) → LeavesLines blocks version plan (pieces_of (after ++ more)) first now live.Memory
+    let left : StopsServing c.args.flow.now now now Memory
     = λ blocks version plan after first is more. serving_first blocks version plan after pending more first now count host is in
     search rules
 
 pub returns-in_err-answer_all-clause-left : goal.returns-in_err-answer_all-clause-left
 returns-in_err-answer_all-clause-left g c =
-    let host = c.args.host.now in
+    let host = c.args.flow.now.host in
     let pending = c.args.flow.now.pending.items in
     let count = c.args.flow.now.written in
     let now = g.W.Write.contents c.args.output.now in
-    let left : (blocks : ℕ) (version : Version) (plan : List GameRow) (after : List ℕ) (first : Option (List ℕ))
-    → IsServing blocks version plan after pending first now count host → (more : List ℕ) → LeavesLines blocks version plan (pieces_of (after ++ more)) first now live.Memory
+    let left : StopsServing c.args.flow.now now now Memory
     = λ blocks version plan after first is more. serving_first blocks version plan after pending more first now count host is in
     search rules
 
 pub returns-in_err-write_out-clause-left : goal.returns-in_err-write_out-clause-left
 returns-in_err-write_out-clause-left g c =
-    let host = c.args.host.now in
+    let host = c.args.flow.now.host in
     let new = c.answer_all.new.self in
     let text = c.answer_all.new.text.bytes in
     let pending = c.args.flow.now.pending.items in
@@ -70,8 +65,7 @@ returns-in_err-write_out-clause-left g c =
     let cut : IsCutLast pending front back = rw c.deref.ensures.value at c.in-Some.ensures.cut in
     let told : text ≡ [] ++ live_texts host (pieces_of front) = rw c.clear.ensures at c.in_ok-answer_all.ensures.text in
     let stops = rw c.as_slice.ensures at c.in_err-write_out.ensures.left in
-    let left : (blocks : ℕ) (version : Version) (plan : List GameRow) (after : List ℕ) (first : Option (List ℕ))
-    → IsServing blocks version plan after pending first now count host → (more : List ℕ) → LeavesLines blocks version plan (pieces_of (after ++ more)) first next fault
+    let left : StopsServing c.args.flow.now now next fault
     = λ blocks version plan after first is more.
     let (rest, whole) = serving_text blocks version plan after pending front back text more first now count host is cut
     (told ∙ texts_are blocks version plan is.done (pieces_of front) host is.answered) in

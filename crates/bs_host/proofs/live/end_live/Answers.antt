@@ -1,11 +1,8 @@
-use Rattle.std.proofs.Common.{◌≡◌, ◌++◌, List, ℕ, Option, [], sym, ap, ◌∙◌, append-nil, rules, inr}
-use Rattle.bs_board.specs.declared.plans.version.Version.{Version}
-use Rattle.bs_board.specs.plans.Plan.{GameRow}
-use Rattle.bs_host.specs.declared.live_fault.LiveFault.TheVariants as live
+use Rattle.std.proofs.Common.{◌≡◌, ◌++◌, [], sym, ap, ◌∙◌, append-nil, rules, inr}
+use Rattle.bs_host.specs.declared.fault.Fault.TheVariants.{Memory}
 use Rattle.bs_host.specs.File.{pieces_of}
 use Rattle.bs_host.specs.Live.{answers_from, live_lines_of}
-use Rattle.bs_host.specs.inner.Live.{IsServing}
-use Rattle.bs_host.specs.inner.LiveFaults.{LeavesLines}
+use Rattle.bs_host.specs.inner.Live.{StopsAtEnd}
 use Rattle.bs_host.specs.inner.LiveHost.{live_texts}
 use Rattle.bs_host.proofs.LiveBytes.{serving_ends, serving_whole}
 use Rattle.bs_host.proofs.LiveStates.{answered_more, end_is, texts_are}
@@ -15,7 +12,7 @@ use Rattle.bs_host.proofs.live.end_live.Goals as goal
 pub returns-clause-written : goal.returns-clause-written
 returns-clause-written g c =
     λ blocks version plan after first is.
-    let host = c.args.host.now in
+    let host = c.args.flow.now.host in
     let new = c.answer_all.new.self in
     let pending = c.args.flow.now.pending.items in
     let count = c.args.flow.now.written in
@@ -34,27 +31,25 @@ returns-clause-written g c =
 
 pub returns-in_err-answer_all-clause-left : goal.returns-in_err-answer_all-clause-left
 returns-in_err-answer_all-clause-left g c =
-    let host = c.args.host.now in
+    let host = c.args.flow.now.host in
     let pending = c.args.flow.now.pending.items in
     let now = g.W.Write.contents c.args.output.now in
-    let left : (blocks : ℕ) (version : Version) (plan : List GameRow) (after : List ℕ) (first : Option (List ℕ))
-    → IsServing blocks version plan after pending first now c.args.flow.now.written host → LeavesLines blocks version plan (pieces_of after) first now live.Memory
+    let left : StopsAtEnd c.args.flow.now now now Memory
     = λ blocks version plan after first is. serving_last blocks version plan after pending first now c.args.flow.now.written host is in
     search rules
 
 pub returns-in_err-close-clause-left : goal.returns-in_err-close-clause-left
 returns-in_err-close-clause-left g c =
-    let host = c.args.host.now in
+    let host = c.args.flow.now.host in
     let pending = c.args.flow.now.pending.items in
     let now = g.W.Write.contents c.args.output.now in
-    let left : (blocks : ℕ) (version : Version) (plan : List GameRow) (after : List ℕ) (first : Option (List ℕ))
-    → IsServing blocks version plan after pending first now c.args.flow.now.written host → LeavesLines blocks version plan (pieces_of after) first now live.Memory
+    let left : StopsAtEnd c.args.flow.now now now Memory
     = λ blocks version plan after first is. serving_last blocks version plan after pending first now c.args.flow.now.written host is in
     search rules
 
 pub returns-in_err-write_out-clause-left : goal.returns-in_err-write_out-clause-left
 returns-in_err-write_out-clause-left g c =
-    let host = c.args.host.now in
+    let host = c.args.flow.now.host in
     let new = c.answer_all.new.self in
     let pending = c.args.flow.now.pending.items in
     let count = c.args.flow.now.written in
@@ -66,8 +61,7 @@ returns-in_err-write_out-clause-left g c =
     let told : text ≡ [] ++ live_texts host (pieces_of pending) = rw (c.clear.ensures, c.deref.ensures.value) at c.in_ok-answer_all.ensures.text in
     let moved = rw c.deref.ensures.value at c.in_ok-answer_all.ensures.host in
     let stops = rw c.as_slice.ensures at c.in_err-write_out.ensures.left in
-    let left : (blocks : ℕ) (version : Version) (plan : List GameRow) (after : List ℕ) (first : Option (List ℕ))
-    → IsServing blocks version plan after pending first now count host → LeavesLines blocks version plan (pieces_of after) first next fault
+    let left : StopsAtEnd c.args.flow.now now next fault
     = λ blocks version plan after first is.
     let before = answers_from blocks version plan [] is.done in
     let whole : live_lines_of blocks version plan (pieces_of after) ≡ before ++ both

@@ -3,7 +3,7 @@ use Rattle.std.specs.Prelude.{IfSome}
 use Rattle.std.specs.Io.KnownBytes.{Appends, IsAtEnd}
 use Rattle.bs_board.specs.declared.plans.version.Version.{Version}
 use Rattle.bs_board.specs.plans.Plan.{GameRow}
-use Rattle.bs_host.specs.declared.live_fault.LiveFault.TheVariants as live
+use Rattle.bs_host.specs.declared.fault.Fault.TheVariants.{Memory}
 use Rattle.bs_host.specs.File.{pieces_of}
 use Rattle.bs_host.specs.LiveFaults.{HasLiveCause}
 use Rattle.bs_host.specs.Live.{live_lines_of}
@@ -18,7 +18,7 @@ use Rattle.bs_host.proofs.live.serve_lines.Goals as goal
 pub loop-init : goal.loop-init
 loop-init g c =
     λ blocks version plan is.
-    let host = c.args.host.now in
+    let host = c.args.host in
     let rest = c.args.rest.now in
     let first = g.W.Write.contents c.args.output.now in
     let same : c.in_ok-from_slice.field-0.items ≡ rest = search rules in (
@@ -31,8 +31,8 @@ loop-init g c =
 
 pub loop-preserved : goal.loop-preserved
 loop-preserved g c =
-    let host = c.args.host.now in
-    let new = c.answer_ready.new.host in
+    let host = c.args.host in
+    let new = c.answer_ready.new.flow.host in
     let pending = c.args.rest.now in
     let first = g.W.Write.contents c.args.output.now in
     let now = g.W.Write.contents c.answer_ready.new.output in
@@ -53,8 +53,8 @@ loop-preserved g c =
 pub returns-then-not-branch-clause-written : goal.returns-then-not-branch-clause-written
 returns-then-not-branch-clause-written g c =
     λ blocks version plan is.
-    let host = c.args.host.now in
-    let new = c.answer_ready.new.host in
+    let host = c.args.host in
+    let new = c.answer_ready.new.flow.host in
     let pending = c.args.rest.now in
     let first = g.W.Write.contents c.args.output.now in
     let now = g.W.Write.contents c.answer_ready.new.output in
@@ -79,7 +79,7 @@ returns-then-not-branch-clause-written g c =
 
 pub returns-in_err-answer_ready-clause-left : goal.returns-in_err-answer_ready-clause-left
 returns-in_err-answer_ready-clause-left g c =
-    let host = c.args.host.now in
+    let host = c.args.host in
     let pending = c.args.rest.now in
     let input = g.R.Read.remaining c.args.input.now in
     let first = g.W.Write.contents c.args.output.now in
@@ -98,8 +98,8 @@ returns-in_err-answer_ready-clause-left g c =
 
 pub returns-in_err-read_more-clause-left : goal.returns-in_err-read_more-clause-left
 returns-in_err-read_more-clause-left g c =
-    let host = c.args.host.now in
-    let new = c.answer_ready.new.host in
+    let host = c.args.host in
+    let new = c.answer_ready.new.flow.host in
     let pending = c.args.rest.now in
     let count = c.answer_ready.new.flow.written in
     let input = g.R.Read.remaining c.args.input.now in
@@ -122,8 +122,8 @@ returns-in_err-read_more-clause-left g c =
 
 pub returns-in_err-end_live-clause-left : goal.returns-in_err-end_live-clause-left
 returns-in_err-end_live-clause-left g c =
-    let host = c.args.host.now in
-    let new = c.answer_ready.new.host in
+    let host = c.args.host in
+    let new = c.answer_ready.new.flow.host in
     let pending = c.args.rest.now in
     let count = c.answer_ready.new.flow.written in
     let input = g.R.Read.remaining c.args.input.now in
@@ -155,14 +155,14 @@ returns-in_err-end_live-clause-left g c =
 pub returns-clause-left : goal.returns-clause-left
 returns-clause-left g c =
     λ blocks version plan is.
-    let host = c.args.host.now in
+    let host = c.args.host in
     let pending = c.args.rest.now in
     let first = g.W.Write.contents c.args.output.now in
     let now = g.W.Write.contents c.loop.output in
     let (bytes, before, serving) = c.loop.invariant blocks version plan is in
-    of_lines blocks version plan (g.R.Read.remaining c.args.input.now) (g.R.Read.remaining c.loop.input) pending bytes first now live.Memory before
+    of_lines blocks version plan (g.R.Read.remaining c.args.input.now) (g.R.Read.remaining c.loop.input) pending bytes first now Memory before
     (λ more.
-    serving_first blocks version plan (pending ++ bytes) c.loop.flow.pending.items more first now c.loop.flow.written c.loop.host serving)
+    serving_first blocks version plan (pending ++ bytes) c.loop.flow.pending.items more first now c.loop.flow.written c.loop.flow.host serving)
 
 pub returns-in_err-answer_ready-clause-failed : goal.returns-in_err-answer_ready-clause-failed
 returns-in_err-answer_ready-clause-failed g c =
