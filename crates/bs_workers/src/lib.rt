@@ -12,6 +12,7 @@ mod gate;
 mod law;
 mod places;
 mod player;
+mod request;
 mod runs;
 mod sharing;
 mod stays;

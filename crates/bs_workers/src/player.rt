@@ -93,7 +93,6 @@ impl<R: Threads + Sync, G: Gate> Player<'_, R, G> {
             alloc: self.alloc,
             core,
             first: 0,
-            thread: 0,
             worker: 0,
             gate: self.gate,
         };
@@ -131,7 +130,6 @@ impl<R: Threads + Sync, G: Gate> Player<'_, R, G> {
                 alloc: self.alloc,
                 core,
                 first: row,
-                thread,
                 worker: thread,
                 gate: self.gate,
             },
