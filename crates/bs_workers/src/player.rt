@@ -205,7 +205,7 @@ impl<R: Threads + Sync, G: Gate> Player<'_, R, G> {
         if row >= self.stays.rows.len() {
             return Err(Stop::Failed);
         }
-        grow_heap(self.alloc)?;
+        grow_heap(self.alloc);
         let core = self.open(self.stays.rows[row].get(), blocks)?;
         let core = self.run_row(thread, threads, row, core)?;
         let stay = self.close(row, core, blocks)?;
