@@ -78,7 +78,7 @@ pub mod PlayedStays
 pub mod LoneStays
 pub mod GatheredStays
 pub mod StaysTogether
-pub mod NotedJobs
+pub mod Entries
 pub mod NextParts
 pub mod Behind
 pub mod HereRun

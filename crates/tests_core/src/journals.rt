@@ -41,11 +41,6 @@ fn a_copy_has_the_events_of_the_journal(rt: HostRuntime) -> Result<(), Fail> {
     let acts = commands(rt.alloc())?;
     for threads in [1usize, 2] {
         let core = run_games(&rt, &TWO, acts.as_slice(), threads, &OpenGate)??;
-        same(
-            "one list",
-            core.journal().as_slice().is_some(),
-            threads == 1,
-        )?;
         check_copies(rt.alloc(), core, acts.len())?;
     }
     Ok(())

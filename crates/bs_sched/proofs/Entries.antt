@@ -1,11 +1,20 @@
--- The events of a command that was answered at once are noted one by one.
+-- The events of entries, and those of a command that was answered in place.
 use Rattle.std.proofs.Common.{◌≡◌, ℕ, ◌+◌, List, [], ◌∷◌, ◌++◌, map, sym, ap, ◌∙◌, arith, append_assoc}
 use Rattle.std.specs.List.{range_with_len}
+use Rattle.std.proofs.lemmas.List.{flat_map_more}
 use Rattle.std.proofs.lemmas.List.FromFn.{map-range_with_len_more}
+use Rattle.bs_sched.specs.declared.entry.Entry.{Entry}
 use Rattle.bs_sched.specs.declared.event.Event.{Event}
 use Rattle.bs_sched.specs.declared.event.Event.TheVariants as event
 use Rattle.bs_sched.specs.Answering.{job_events, join_job, move_events, part_puts, part_takes}
 use Rattle.bs_sched.specs.Parts.{part_job}
+use Rattle.bs_sched.specs.inner.Entries.{all_events, events_of}
+
+-- an entry more has its events at the end
+pub one_more_entry : (before events : List Event) (entries new : List Entry) (e : Entry) → events_of e ≡ events → new ≡ entries ++ e ∷ []
+    → before ++ all_events new ≡ (before ++ all_events entries) ++ events
+one_more_entry before events entries new e is after =
+    ap (λ es. before ++ all_events es) after ∙ sym (flat_map_more events_of before entries e) ∙ ap (λ es. (before ++ all_events entries) ++ es) is
 
 one_more : (f : ℕ → Event) (old now new : List Event) (p : ℕ) → now ≡ old ++ map f (range_with_len 0 p) → new ≡ now ++ f p ∷ []
     → new ≡ old ++ map f (range_with_len 0 (p + 1))
@@ -21,9 +30,9 @@ pub one_more_put : (worker game p : ℕ) (old now new : List Event) → new ≡ 
     → new ≡ old ++ part_puts worker game (p + 1)
 one_more_put worker game p old now new after before = one_more (λ q. event.Put worker (part_job game q)) old now new p before after
 
-pub all_noted : (worker game parts : ℕ) (old takes puts new : List Event) → new ≡ puts ++ job_events worker (join_job game) → takes ≡ old ++ part_takes worker game parts
+pub all_pushed : (worker game parts : ℕ) (old takes puts new : List Event) → new ≡ puts ++ job_events worker (join_job game) → takes ≡ old ++ part_takes worker game parts
     → puts ≡ takes ++ part_puts worker game parts → new ≡ old ++ move_events worker game parts
-all_noted worker game parts old takes puts new last first middle =
+all_pushed worker game parts old takes puts new last first middle =
     let ts = part_takes worker game parts in
     let ps = part_puts worker game parts in
     let join = job_events worker (join_job game) in
