@@ -101,8 +101,8 @@ impl Journal {
         ensures used { self.new.used ≡ self.old.used + 1 }
         ensures room { self.new.room ≡ self.old.room }
     {
-        self.later
-            .push_reserved(Entry::Answered(worker, game, parts));
+        let answer = Entry::Answered(worker, game, parts);
+        self.later.push_reserved(answer);
     }
 
     /// Whether there are no events, and the core was not put together of others.
