@@ -1,9 +1,11 @@
 -- The events of entries, and those of a command that was answered in place.
-use Rattle.std.proofs.Common.{◌≡◌, ℕ, ◌+◌, List, [], ◌∷◌, ◌++◌, map, sym, ap, ◌∙◌, arith, append_assoc}
+use Rattle.std.proofs.Common.{◌≡◌, ℕ, ◌+◌, true, false, List, [], ◌∷◌, ◌++◌, length, map, refl, sym, ap, subst, ◌∙◌, arith, append_assoc}
+use Rattle.std.specs.Prelude.{◌==◌}
 use Rattle.std.specs.List.{range_with_len}
 use Rattle.std.proofs.lemmas.List.{flat_map_more}
 use Rattle.std.proofs.lemmas.List.FromFn.{map-range_with_len_more}
 use Rattle.bs_sched.specs.declared.entry.Entry.{Entry}
+use Rattle.bs_sched.specs.declared.entry.Entry.TheVariants as entry
 use Rattle.bs_sched.specs.declared.event.Event.{Event}
 use Rattle.bs_sched.specs.declared.event.Event.TheVariants as event
 use Rattle.bs_sched.specs.Answering.{job_events, join_job, move_events, part_puts, part_takes}
@@ -15,6 +17,24 @@ pub one_more_entry : (before events : List Event) (entries new : List Entry) (e 
     → before ++ all_events new ≡ (before ++ all_events entries) ++ events
 one_more_entry before events entries new e is after =
     ap (λ es. before ++ all_events es) after ∙ sym (flat_map_more events_of before entries e) ∙ ap (λ es. (before ++ all_events entries) ++ es) is
+
+-- each entry has an event, so there are no events if and only if there are no entries
+
+pub none_counted : (entries : List Entry) (count : ℕ) → count ≡ length entries → (count == 0) ≡ true → all_events entries ≡ []
+none_counted [] count is none = refl
+none_counted (e ∷ entries) count is none = let wrong : false ≡ true = subst (λ (n : ℕ). (n == 0) ≡ true) is none in absurd cc
+
+not_first : (e : Event) (events : List Event) → e ∷ events ≡ [] → ⊥
+not_first e events is = cc
+
+pub count_none : (entries : List Entry) (count : ℕ) → count ≡ length entries → all_events entries ≡ [] → (count == 0) ≡ true
+count_none [] count is none = subst (λ (n : ℕ). (n == 0) ≡ true) (sym is) refl
+count_none (entry.Hand game command ∷ entries) count is none = absurd (not_first _ _ none)
+count_none (entry.Take worker job ∷ entries) count is none = absurd (not_first _ _ none)
+count_none (entry.Put worker job ∷ entries) count is none = absurd (not_first _ _ none)
+count_none (entry.Admit row ∷ entries) count is none = absurd (not_first _ _ none)
+count_none (entry.Leave game ∷ entries) count is none = absurd (not_first _ _ none)
+count_none (entry.Answered worker game parts ∷ entries) count is none = absurd (not_first _ _ none)
 
 one_more : (f : ℕ → Event) (old now new : List Event) (p : ℕ) → now ≡ old ++ map f (range_with_len 0 p) → new ≡ now ++ f p ∷ []
     → new ≡ old ++ map f (range_with_len 0 (p + 1))

@@ -106,10 +106,14 @@ impl Journal {
     }
 
     /// Whether there are no events, and the core was not put together of others.
+    #[tactic(auto, using(crate::proofs::Entries::none_counted, crate::proofs::Entries::count_none))]
     pub fn is_empty(&self) -> bool
         ensures { IsTrue result ↔ (self.now.is_whole ≡ true) × (self.now.events ≡ []) }
     {
-        self.unmerged.is_none() && self.later.is_empty()
+        match self.unmerged {
+            None => self.later.is_empty(),
+            Some(_) => false,
+        }
     }
 
     /// A list of the events, as `into_vec` makes it, while the journal stays: commands and rows are
