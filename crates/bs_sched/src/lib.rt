@@ -5,7 +5,6 @@
 mod answering;
 mod answers;
 mod assembling;
-mod busy;
 mod cores;
 mod event;
 mod fiber;
