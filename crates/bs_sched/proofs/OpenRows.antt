@@ -1,6 +1,6 @@
 -- The rows of the open stays.
 use Rattle.std.proofs.Common.{◌≡◌, ℕ, zero, suc, ◌+◌, ◌<◌, Bool, true, false, List, [], ◌∷◌, length, refl, sym, ap, subst, ◌∙◌, arith, inl, inr}
-use Rattle.std.specs.Prelude.{All, ◌||◌, nat_eq, not, slice_index_or}
+use Rattle.std.specs.Prelude.{All, ◌&&◌, ◌||◌, if◌then◌else◌, nat_eq, not, slice_index_or}
 use Rattle.std.specs.List.{list_all}
 use Rattle.std.proofs.lemmas.Bool.{cases_Bool}
 use Rattle.std.proofs.lemmas.List.{length-map}
@@ -8,7 +8,7 @@ use Rattle.std.proofs.lemmas.List.Elements.{All-nil, All-cons, All-head, All-tai
 use Rattle.bs_board.proofs.Chains.{and_both}
 use Rattle.bs_board.specs.plans.Plan.{GameRow}
 use Rattle.bs_registry.specs.declared.registry.Listed.{Listed}
-use Rattle.bs_registry.specs.OpenStays.{OpenStayList, open_stays_of}
+use Rattle.bs_registry.specs.OpenStays.{OpenStayList, open_from, open_stays_of}
 use Rattle.bs_registry.specs.Registry.{Listing, row_open, rows_open, seen}
 use Rattle.bs_sched.specs.Registry.{registry_of}
 use Rattle.bs_sched.specs.inner.GamesLayout.{numbers_in, numbers_of, open_rows, open_rows_from}
@@ -107,6 +107,11 @@ module _ {X : Type 0} where
 
 -- what holds of each stay that has left holds of all stays if it holds of the open ones
 
+one_more : (f : ℕ → Bool) (at : ℕ × GameRow) (rest : List (ℕ × GameRow)) (stands here all : Bool) → f at.0 ≡ here → (stands ≡ false → here ≡ true)
+    → list_all f (numbers_of rest) ≡ all → list_all f (numbers_of (if stands then at ∷ rest else rest)) ≡ (here && all)
+one_more f at rest true here all first closed same = rw (first, same) refl
+one_more f at rest false here all first closed same = rw (closed refl) same
+
 all_from : (p : Lane → Bool) (f : ℕ → Bool) (from : ℕ) (lanes : List Lane) → ((game : ℕ) → game < length lanes → f (from + game) ≡ p (lane_of lanes game))
     → ((game : ℕ) → game < length lanes → (lane_of lanes game).is_open ≡ false → p (lane_of lanes game) ≡ true)
     → list_all f (open_rows_from from lanes) ≡ list_all p lanes
@@ -115,12 +120,7 @@ all_from p f from (x ∷ lanes) same closed =
     let first : f from ≡ p x = let none : from + 0 ≡ from = omega arith in ap f (sym none) ∙ same 0 (omega arith) in
     let rest = all_from p f (from + 1) lanes (λ game less. let next : from + 1 + game ≡ from + suc game = omega arith in ap f next ∙ same (suc game) (omega (arith, less)))
     (λ game less shut. closed (suc game) (omega (arith, less)) shut) in
-    elim (cases_Bool x.is_open) [
-      | inl stands ↦ rw (stands, first, rest) refl
-      | inr shut ↦
-          let still : p x ≡ true = closed 0 (omega arith) shut in
-          rw (shut, rest, still) refl
-    ]
+    one_more f (from, x.row) (open_from (from + 1) (registry_of lanes)) x.is_open (p x) (list_all p lanes) first (λ shut. closed 0 (omega arith) shut) rest
 
 pub all_among : (p : Lane → Bool) (lanes : List Lane) → ((game : ℕ) → game < length lanes → (lane_of lanes game).is_open ≡ false → p (lane_of lanes game) ≡ true)
     → list_all (λ game. p (lane_of lanes game)) (open_rows lanes) ≡ list_all p lanes
