@@ -6,7 +6,6 @@ pub mod Answered
 pub mod BegunParts
 pub mod Registry
 pub mod Brought
-pub mod BusyTable
 pub mod ChangedGame
 pub mod ChangedGames
 pub mod ChangedStays

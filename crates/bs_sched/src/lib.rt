@@ -5,7 +5,6 @@
 mod answering;
 mod answers;
 mod assembling;
-mod busy;
 mod cores;
 mod entry;
 mod event;

@@ -26,7 +26,7 @@ invariant_of-self-2 g c =
     let same = c.note_answer.ensures.room in
     let room = c.in_ok-reserve.ensures.room in
     journaled_here g.row.CAP inside _ worker game n (answered (begun (lane_of inside.games.lanes game))) c.self.invariant enabled c.next_parts-parts.ensures
-    (c.in_ok-answer_here.ensures.ok worker) c.in_ok-answer_here.ensures.lanes refl items refl (omega (arith, used, same, room)) refl
+    (c.in_ok-answer_here.ensures.ok worker) c.in_ok-answer_here.ensures.lanes refl items refl (omega (arith, used, same, room))
 
 pub worker_number-number-requires : goal.worker_number-number-requires
 worker_number-number-requires g c =
