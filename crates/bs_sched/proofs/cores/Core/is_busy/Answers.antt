@@ -3,7 +3,6 @@ use Rattle.std.proofs.Common.{◌≡◌, false, sym, ap, subst, ◌∙◌, arith
 use Rattle.std.specs.Prelude.{nat_lt}
 use Rattle.bs_sched.specs.Core.{CoreView}
 use Rattle.bs_sched.specs.Machine.{is_busy}
-use Rattle.bs_sched.specs.inner.Journal.{jobs_out}
 use Rattle.bs_sched.proofs.JobsOut.{nobody_busy}
 use Rattle.bs_sched.proofs.cores.Core.is_busy.Goals as goal
 
