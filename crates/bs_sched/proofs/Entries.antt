@@ -1,7 +1,8 @@
 -- The events of entries, and those of a command that was answered in place.
-use Rattle.std.proofs.Common.{◌≡◌, ℕ, ◌+◌, true, false, List, [], ◌∷◌, ◌++◌, length, map, refl, sym, ap, subst, ◌∙◌, arith, append_assoc}
+use Rattle.std.proofs.Common.{◌≡◌, ℕ, suc, ◌+◌, true, List, [], ◌∷◌, ◌++◌, length, map, refl, sym, ap, subst, ◌∙◌, arith, append_assoc}
 use Rattle.std.specs.Prelude.{◌==◌}
 use Rattle.std.specs.List.{range_with_len}
+use Rattle.std.proofs.lemmas.Bool.{eqb-true}
 use Rattle.std.proofs.lemmas.List.{flat_map_more}
 use Rattle.std.proofs.lemmas.List.FromFn.{map-range_with_len_more}
 use Rattle.bs_sched.specs.declared.entry.Entry.{Entry}
@@ -22,7 +23,7 @@ one_more_entry before events entries new e is after =
 
 pub none_counted : (entries : List Entry) (count : ℕ) → count ≡ length entries → (count == 0) ≡ true → all_events entries ≡ []
 none_counted [] count is none = refl
-none_counted (e ∷ entries) count is none = let wrong : false ≡ true = subst (λ (n : ℕ). (n == 0) ≡ true) is none in absurd cc
+none_counted (e ∷ entries) count is none = let wrong : suc (length entries) ≡ 0 = sym is ∙ eqb-true count 0 none in absurd (omega (arith, wrong))
 
 not_first : (e : Event) (events : List Event) → e ∷ events ≡ [] → ⊥
 not_first e events is = cc
