@@ -68,7 +68,7 @@ answer_here-requires g c =
     let at = ready_here inside.games.workers inside.games.lanes worker game enabled in
     (omega arith, (at.0, (at.1, c.next_parts-parts.ensures)))
 
-pub overflow_cast-parts : goal.overflow_cast-note_answer
+pub overflow_cast-parts : goal.overflow_cast-parts
 overflow_cast-parts g c = let few = c.next_parts-parts.ensures.few in omega (arith, few)
 
 pub note_answer-requires : goal.note_answer-requires
