@@ -1,5 +1,5 @@
 //! The entries of a journal: a command that is answered in place is one.
-ghost use Rattle.std.specs.Prelude.{◌≡◌, ◌++◌, ◌∷◌, [], ◌<◌, IfOk, OnOk};
+ghost use Rattle.std.specs.Prelude.{◌≡◌, ◌++◌, ◌∷◌, [], IfOk, OnOk};
 ghost use Rattle.bs_sched.specs.Answering.{answer_events, job_events, move_events, part_puts, part_takes};
 ghost use Rattle.bs_sched.specs.Parts.{part_job};
 ghost use Rattle.bs_sched.specs.inner.Entries.{all_events, events_of};
