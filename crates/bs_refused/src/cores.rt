@@ -50,7 +50,7 @@ struct StaySeen {
 pub struct Seen {
     counts: Counts,
     workers: usize,
-    events: Option<usize>,
+    events: usize,
     is_quiet: bool,
     has_failed: bool,
     stays: Vec<StaySeen>,
@@ -96,7 +96,7 @@ pub fn seen_core(alloc: Global, core: &Core<CAP>) -> Result<Seen, Fault> {
     Ok(Seen {
         counts: core.counts(),
         workers: core.workers(),
-        events: core.journal().as_slice().map(|events| events.len()),
+        events: core.journal().to_vec(alloc)?.len(),
         is_quiet: core.is_quiet(),
         has_failed: core.has_failed(),
         stays,

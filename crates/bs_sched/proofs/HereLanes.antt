@@ -21,11 +21,10 @@ use Rattle.bs_sched.specs.Lane.{Lane, goes_on, is_idle, is_in_parts, is_out, is_
 use Rattle.bs_sched.specs.Machine.{Setting, is_busy, is_enabled, is_enabled_there, lane_effect, lane_of, step}
 use Rattle.bs_sched.specs.Parts.{core_run}
 use Rattle.bs_sched.specs.inner.Answering.{games_after}
-use Rattle.bs_sched.specs.inner.Busy.{IsBusyTable, held_by}
 use Rattle.bs_sched.specs.inner.Lane.{HasNoneReady}
 use Rattle.bs_sched.specs.inner.Journal.{IsJournaled, core_in, jobs_out, out_of_lane, out_of_stage}
 use Rattle.bs_sched.specs.declared.cores.Core.TheInside.{Inside}
-use Rattle.bs_sched.specs.Games.{GamesView, after}
+use Rattle.bs_sched.specs.Games.{after}
 use Rattle.bs_sched.proofs.FitInputs.{same_worker}
 use Rattle.bs_sched.proofs.HereRun.{Step, event_of, events_of, forked_is, jobs, jobs_are, moves, moving, put, take}
 use Rattle.bs_sched.proofs.Journaled.{journal_after, same_setting}
@@ -243,43 +242,21 @@ same_out lanes game y within before after =
     let new = idle_out y after in
     omega (arith, sum, old, new)
 
-idle_held : (w : ℕ) (x : Lane) → x.stage ≡ stage.Idle → held_by w x ≡ 0
-idle_held w x idle = rw (free_at w x idle) refl
-
-pub same_table : (workers : ℕ) (lanes : List Lane) (busy : List Bool) (game : ℕ) (y : Lane) → game < length lanes → (lane_of lanes game).stage ≡ stage.Idle
-    → y.stage ≡ stage.Idle → IsBusyTable workers lanes busy → IsBusyTable workers (slice_set lanes game y) busy
-same_table workers lanes busy game y within before after table =
-    record {
-      many = table.many;
-      each = λ w bound.
-          let sum = sum_by-set (held_by w) lanes game y no_lane within in
-          let old = idle_held w (lane_of lanes game) before in
-          let new = idle_held w y after in
-          let was = table.each w bound in
-          omega (arith, sum, old, new, was);
-    }
-
-pub workers_after : (cap : ℕ) (games : GamesView) (events : List Event) → (games_after cap games events).workers ≡ games.workers
-workers_after cap games [] = refl
-workers_after cap games (e ∷ events) = workers_after cap (after cap games e) events
-
 -- how a core that answered a command lies in its fields
 pub journaled_here : (cap : ℕ) {at : ℕ} (c new : Inside at) (worker game n : ℕ) (y : Lane) → IsJournaled cap c
     → is_enabled_there c.games.workers c.games.lanes (event.Take worker (begin_job game)) ≡ true → AreNextParts (lane_of c.games.lanes game) n
     → new.games ≡ games_after cap c.games (answer_events worker game n) → new.games.lanes ≡ slice_set c.games.lanes game y → y.stage ≡ stage.Idle
     → new.journal.events ≡ c.journal.events ++ answer_events worker game n → new.out ≡ c.out → new.journal.used + new.out ≤ new.journal.room
-    → new.busy.items ≡ c.busy.items → IsJournaled cap new
-journaled_here cap c new worker game n y sound enabled are games lanes idle journal out room busy =
+    → IsJournaled cap new
+journaled_here cap c new worker game n y sound enabled are games lanes idle journal out room =
     let events = answer_events worker game n in
     let core = core_in c in
     let at = ready_here c.games.workers c.games.lanes worker game enabled in
     let before = at_idle (lane_of c.games.lanes game) at.1 in
     let is : core_in new ≡ core_run cap core events
     = (λ i. record { games = games i; journal = journal i }) ∙ sym (core_runs cap core events) in
-    let workers : new.games.workers ≡ c.games.workers = ap (λ (g : GamesView). g.workers) games ∙ workers_after cap c.games events in
     record {
       journal = subst (IsItsJournal cap) (sym is) (journal_here cap core worker game n sound.journal enabled are);
       out = out ∙ sound.out ∙ sym (same_out c.games.lanes game y at.0 before idle) ∙ ap jobs_out (sym lanes);
       room = room;
-      busy = rw (workers, lanes, busy) (same_table c.games.workers c.games.lanes c.busy.items game y at.0 before idle sound.busy);
     }

@@ -1,7 +1,7 @@
 -- The number of jobs of a core that are out: one more after each that is taken, one less after each
 -- that is completed.
 use Rattle.std.proofs.Common.{◌≡◌, ℕ, zero, suc, ◌+◌, ◌*◌, ◌<◌, Bool, true, false, List, [], ◌∷◌, length, map, get_or, refl, sym, arith}
-use Rattle.std.specs.Prelude.{Some, None, ◌&&◌, if◌then◌else◌, nat_eq, nat_lt, slice_set, replicate, sum_by}
+use Rattle.std.specs.Prelude.{Some, None, ◌&&◌, ◌||◌, if◌then◌else◌, nat_eq, nat_lt, slice_set, replicate, sum_by}
 use Rattle.std.specs.List.{list_all}
 use Rattle.std.proofs.lemmas.Bool.{ltb-true}
 use Rattle.std.proofs.lemmas.List.Folds.{sum_by-replicate}
@@ -21,7 +21,7 @@ use Rattle.bs_sched.specs.PartState.{PartState}
 use Rattle.bs_sched.specs.PartState as part
 use Rattle.bs_sched.specs.inner.Journal.{out_of_part, out_of_stage, out_of_lane, jobs_out}
 use Rattle.bs_sched.specs.Lane.{Lane, empty_lane, closed_lane, no_lane, goes_on, is_idle, is_in_parts, is_to_join, has_begin, has_join, has_part, is_part_ready, is_part_done, is_ready, is_out, forked, answered, stage_with, with_waiting, with_taken, with_put}
-use Rattle.bs_sched.specs.Machine.{lane_of, lane_effect, is_enabled_there}
+use Rattle.bs_sched.specs.Machine.{lane_of, lane_effect, is_busy, is_enabled_there}
 
 -- of the parts
 
@@ -76,7 +76,7 @@ out_to_join stage.Parts parts has = let wrong : false ≡ true = has in absurd c
 out_to_join (stage.Join None) parts has = refl
 out_to_join (stage.Join (Some worker)) parts has = let wrong : false ≡ true = has in absurd cc
 
-out_idle : (s : Stage) (parts : List PartState) → is_idle s ≡ true → out_of_stage s parts ≡ 0
+pub out_idle : (s : Stage) (parts : List PartState) → is_idle s ≡ true → out_of_stage s parts ≡ 0
 out_idle stage.Idle parts idle = refl
 out_idle (stage.Begin worker) parts idle = let wrong : false ≡ true = idle in absurd cc
 out_idle stage.Parts parts idle = let wrong : false ≡ true = idle in absurd cc
@@ -144,7 +144,24 @@ put_out x worker kind.Join p out =
     let old = out_joining worker x.stage x.parts (and_both (nat_eq p 0) (has_join worker x.stage) out).1 in
     omega (arith, old)
 
+-- no job of a lane is out
+
+free_in : (worker : ℕ) (s : Stage) (parts : List PartState) → out_of_stage s parts ≡ 0 → (has_begin worker s || has_join worker s) ≡ false
+free_in worker stage.Idle parts none = refl
+free_in worker (stage.Begin other) parts none = absurd (omega (arith, none))
+free_in worker stage.Parts parts none = refl
+free_in worker (stage.Join None) parts none = refl
+free_in worker (stage.Join (Some other)) parts none = absurd (omega (arith, none))
+
 -- of all lanes
+
+pub nobody_busy : (worker : ℕ) (lanes : List Lane) → jobs_out lanes ≡ 0 → is_busy worker lanes ≡ false
+nobody_busy worker [] none = refl
+nobody_busy worker (x ∷ lanes) none =
+    let sum = sum_by-cons out_of_lane x lanes in
+    let here = free_in worker x.stage x.parts (omega (arith, sum, none)) in
+    let rest = nobody_busy worker lanes (omega (arith, sum, none)) in
+    rw (here, rest) refl
 
 pub none_out : (rows : List GameRow) → jobs_out (map (λ (row : GameRow). empty_lane row) rows) ≡ 0
 none_out [] = refl

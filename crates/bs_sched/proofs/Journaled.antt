@@ -11,7 +11,6 @@ use Rattle.bs_pool.specs.Ledger.{size}
 use Rattle.bs_sched.specs.declared.cores.Core.TheInside.{Inside}
 use Rattle.bs_sched.specs.declared.event.Event.{Event}
 use Rattle.bs_sched.specs.Registry.{AreKnownApart, rows_in}
-use Rattle.bs_sched.specs.inner.Busy.{IsBusyTable}
 use Rattle.bs_sched.specs.Core.{CoreView, opened_core, core_after}
 use Rattle.bs_sched.specs.Games.{GamesView, after, setting_of, opened}
 use Rattle.bs_sched.specs.Isolation.{AreHosted, HandsFit, are_enabled, opened_lanes, shared_run}
@@ -19,7 +18,7 @@ use Rattle.bs_sched.specs.Journal.{IsItsJournal, KeepsApart, setting_in}
 use Rattle.bs_sched.specs.inner.Journal.{IsJournaled, core_in, jobs_out}
 use Rattle.bs_sched.specs.Lane.{Lane, is_quiet, is_ready}
 use Rattle.bs_sched.specs.inner.Lane.{HasNoneReady}
-use Rattle.bs_sched.specs.Machine.{Setting, is_enabled, lane_effect, lane_of, step, run_of}
+use Rattle.bs_sched.specs.Machine.{Setting, is_enabled, lane_of, step, run_of}
 use Rattle.bs_sched.specs.Memory.{games_run, games_step}
 use Rattle.bs_sched.specs.SharedMemory.{IsHosted, SharesMemory}
 use Rattle.bs_sched.specs.inner.Taking.{AreNoneOpenReady, AreNoneReady}
@@ -156,8 +155,8 @@ journal_told cap core tallies is = record { hosted = is.hosted; fits = is.fits; 
 pub journaled_told : (cap : ℕ) {at : ℕ} (c : Inside at) (e : Event) (tallies : List (Option TallyId)) (new : Inside at) → IsJournaled cap c
     → is_enabled (setting_of cap c.games) c.games.lanes e ≡ true → HandsFit e → new.games ≡ record (after cap c.games e) { tallies = tallies }
     → new.journal.events ≡ c.journal.events ++ e ∷ [] → new.out ≡ jobs_out (after cap c.games e).lanes → new.journal.used + new.out ≤ new.journal.room
-    → IsBusyTable c.games.workers (lane_effect c.games.lanes e) new.busy.items → IsJournaled cap new
-journaled_told cap c e tallies new sound enabled fits games journal out room busy =
+    → IsJournaled cap new
+journaled_told cap c e tallies new sound enabled fits games journal out room =
     let told : GamesView = record (after cap c.games e) { tallies = tallies } in
     let is : core_in new ≡ record { games = told; journal = c.journal.events ++ e ∷ [] }
     = ap (λ (g : GamesView). record { games = g; journal = new.journal.events }) games ∙ ap (λ (j : List Event). record { games = told; journal = j }) journal in
@@ -166,12 +165,10 @@ journaled_told cap c e tallies new sound enabled fits games journal out room bus
           subst (IsItsJournal cap) (sym is) (journal_told cap (core_after cap (core_in c) e) tallies (journal_after cap (core_in c) e sound.journal enabled fits));
       out = out ∙ ap (λ (g : GamesView). jobs_out g.lanes) (sym games);
       room = room;
-      busy = subst (λ (g : GamesView). IsBusyTable g.workers g.lanes new.busy.items) (sym games) busy;
     }
 
 pub journaled_after : (cap : ℕ) {at : ℕ} (c : Inside at) (e : Event) (new : Inside at) → IsJournaled cap c
     → is_enabled (setting_of cap c.games) c.games.lanes e ≡ true → HandsFit e → new.games ≡ after cap c.games e → new.journal.events ≡ c.journal.events ++ e ∷ []
-    → new.out ≡ jobs_out (after cap c.games e).lanes → new.journal.used + new.out ≤ new.journal.room
-    → IsBusyTable c.games.workers (lane_effect c.games.lanes e) new.busy.items → IsJournaled cap new
-journaled_after cap c e new sound enabled fits games journal out room busy =
-    journaled_told cap c e c.games.tallies new sound enabled fits games journal out room busy
+    → new.out ≡ jobs_out (after cap c.games e).lanes → new.journal.used + new.out ≤ new.journal.room → IsJournaled cap new
+journaled_after cap c e new sound enabled fits games journal out room =
+    journaled_told cap c e c.games.tallies new sound enabled fits games journal out room

@@ -6,7 +6,6 @@ pub mod Answered
 pub mod BegunParts
 pub mod Registry
 pub mod Brought
-pub mod BusyTable
 pub mod ChangedGame
 pub mod ChangedGames
 pub mod ChangedStays
@@ -78,7 +77,7 @@ pub mod PlayedStays
 pub mod LoneStays
 pub mod GatheredStays
 pub mod StaysTogether
-pub mod NotedJobs
+pub mod Entries
 pub mod NextParts
 pub mod Behind
 pub mod HereRun

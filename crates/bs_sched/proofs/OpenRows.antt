@@ -1,18 +1,21 @@
 -- The rows of the open stays.
 use Rattle.std.proofs.Common.{◌≡◌, ℕ, zero, suc, ◌+◌, ◌<◌, Bool, true, false, List, [], ◌∷◌, length, refl, sym, ap, subst, ◌∙◌, arith, inl, inr}
-use Rattle.std.specs.Prelude.{All, slice_index_or}
+use Rattle.std.specs.Prelude.{All, ◌&&◌, ◌||◌, if◌then◌else◌, nat_eq, not, slice_index_or}
 use Rattle.std.specs.List.{list_all}
 use Rattle.std.proofs.lemmas.Bool.{cases_Bool}
 use Rattle.std.proofs.lemmas.List.{length-map}
 use Rattle.std.proofs.lemmas.List.Elements.{All-nil, All-cons, All-head, All-tail, All-weaker}
+use Rattle.bs_board.proofs.Chains.{and_both}
 use Rattle.bs_board.specs.plans.Plan.{GameRow}
 use Rattle.bs_registry.specs.declared.registry.Listed.{Listed}
-use Rattle.bs_registry.specs.OpenStays.{OpenStayList, open_stays_of}
+use Rattle.bs_registry.specs.OpenStays.{OpenStayList, open_from, open_stays_of}
 use Rattle.bs_registry.specs.Registry.{Listing, row_open, rows_open, seen}
 use Rattle.bs_sched.specs.Registry.{registry_of}
 use Rattle.bs_sched.specs.inner.GamesLayout.{numbers_in, numbers_of, open_rows, open_rows_from}
-use Rattle.bs_sched.specs.Lane.{Lane, is_quiet}
-use Rattle.bs_sched.specs.Machine.{lane_of}
+use Rattle.bs_sched.specs.declared.stage.Stage.{Stage}
+use Rattle.bs_sched.specs.declared.stage.Stage.TheVariants as stage
+use Rattle.bs_sched.specs.Lane.{Lane, has_begin, has_join, is_idle, is_quiet, occupies}
+use Rattle.bs_sched.specs.Machine.{is_busy, lane_of}
 
 pub numbers_listed : {X : Type 0} (stays : Listing X) (lanes : List Lane) → seen stays ≡ open_stays_of (registry_of lanes)
     → numbers_in stays.stays ≡ open_rows lanes
@@ -102,24 +105,49 @@ module _ {X : Type 0} where
       let rest = all_quiet f stays (λ place within. all (suc place) (omega (arith, within))) in
       rw (first, rest) refl
 
--- stays that have left are idle, so only the open ones matter
+-- what holds of each stay that has left holds of all stays if it holds of the open ones
 
-quiet_from : (f : ℕ → Bool) (from : ℕ) (lanes : List Lane) → ((game : ℕ) → game < length lanes → f (from + game) ≡ is_quiet (lane_of lanes game))
-    → ((game : ℕ) → game < length lanes → (lane_of lanes game).is_open ≡ false → is_quiet (lane_of lanes game) ≡ true)
-    → list_all f (open_rows_from from lanes) ≡ list_all is_quiet lanes
-quiet_from f from [] same closed = refl
-quiet_from f from (x ∷ lanes) same closed =
-    let first : f from ≡ is_quiet x = let none : from + 0 ≡ from = omega arith in ap f (sym none) ∙ same 0 (omega arith) in
-    let rest = quiet_from f (from + 1) lanes (λ game less. let next : from + 1 + game ≡ from + suc game = omega arith in ap f next ∙ same (suc game) (omega (arith, less)))
+one_more : (f : ℕ → Bool) (at : ℕ × GameRow) (rest : List (ℕ × GameRow)) (stands here all : Bool) → f at.0 ≡ here → (stands ≡ false → here ≡ true)
+    → list_all f (numbers_of rest) ≡ all → list_all f (numbers_of (if stands then at ∷ rest else rest)) ≡ (here && all)
+one_more f at rest true here all first closed same = rw (first, same) refl
+one_more f at rest false here all first closed same = rw (closed refl) same
+
+all_from : (p : Lane → Bool) (f : ℕ → Bool) (from : ℕ) (lanes : List Lane) → ((game : ℕ) → game < length lanes → f (from + game) ≡ p (lane_of lanes game))
+    → ((game : ℕ) → game < length lanes → (lane_of lanes game).is_open ≡ false → p (lane_of lanes game) ≡ true)
+    → list_all f (open_rows_from from lanes) ≡ list_all p lanes
+all_from p f from [] same closed = refl
+all_from p f from (x ∷ lanes) same closed =
+    let first : f from ≡ p x = let none : from + 0 ≡ from = omega arith in ap f (sym none) ∙ same 0 (omega arith) in
+    let rest = all_from p f (from + 1) lanes (λ game less. let next : from + 1 + game ≡ from + suc game = omega arith in ap f next ∙ same (suc game) (omega (arith, less)))
     (λ game less shut. closed (suc game) (omega (arith, less)) shut) in
-    elim (cases_Bool x.is_open) [
-      | inl stands ↦ rw (stands, first, rest) refl
-      | inr shut ↦
-          let still : is_quiet x ≡ true = closed 0 (omega arith) shut in
-          rw (shut, rest, still) refl
+    one_more f (from, x.row) (open_from (from + 1) (registry_of lanes)) x.is_open (p x) (list_all p lanes) first (λ shut. closed 0 (omega arith) shut) rest
+
+pub all_among : (p : Lane → Bool) (lanes : List Lane) → ((game : ℕ) → game < length lanes → (lane_of lanes game).is_open ≡ false → p (lane_of lanes game) ≡ true)
+    → list_all (λ game. p (lane_of lanes game)) (open_rows lanes) ≡ list_all p lanes
+all_among p lanes closed = all_from p (λ game. p (lane_of lanes game)) 0 lanes
+    (λ game less. let none : 0 + game ≡ game = omega arith in ap (λ (row : ℕ). p (lane_of lanes row)) none) closed
+
+-- stays that have left are idle, so no worker has a job of one of them
+
+idle_free : (worker : ℕ) (s : Stage) → is_idle s ≡ true → (has_begin worker s || has_join worker s) ≡ false
+idle_free worker stage.Idle idle = refl
+idle_free worker (stage.Begin other) idle = let wrong : false ≡ true = idle in absurd cc
+idle_free worker stage.Parts idle = let wrong : false ≡ true = idle in absurd cc
+idle_free worker (stage.Join taker) idle = let wrong : false ≡ true = idle in absurd cc
+
+none_occupied : (worker : ℕ) (lanes : List Lane) → not (list_all (λ x. not (occupies worker x)) lanes) ≡ is_busy worker lanes
+none_occupied worker [] = refl
+none_occupied worker (x ∷ lanes) =
+    elim (cases_Bool (occupies worker x)) [
+      | inl on ↦ rw on refl
+      | inr off ↦ rw off (none_occupied worker lanes)
     ]
 
-pub quiet_among : (lanes : List Lane) → ((game : ℕ) → game < length lanes → (lane_of lanes game).is_open ≡ false → is_quiet (lane_of lanes game) ≡ true)
-    → list_all (λ game. is_quiet (lane_of lanes game)) (open_rows lanes) ≡ list_all is_quiet lanes
-quiet_among lanes closed = quiet_from (λ game. is_quiet (lane_of lanes game)) 0 lanes
-    (λ game less. let none : 0 + game ≡ game = omega arith in ap (λ (row : ℕ). is_quiet (lane_of lanes row)) none) closed
+pub busy_among : (worker : ℕ) (lanes : List Lane) → ((game : ℕ) → game < length lanes → (lane_of lanes game).is_open ≡ false → is_quiet (lane_of lanes game) ≡ true)
+    → not (list_all (λ game. not (occupies worker (lane_of lanes game))) (open_rows lanes)) ≡ is_busy worker lanes
+busy_among worker lanes closed =
+    ap not (all_among (λ x. not (occupies worker x)) lanes
+    (λ game less shut.
+    let x = lane_of lanes game in
+    ap not (idle_free worker x.stage (and_both (is_idle x.stage) (nat_eq (length x.waiting) 0) (closed game less shut)).0)))
+    ∙ none_occupied worker lanes

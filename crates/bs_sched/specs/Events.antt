@@ -5,8 +5,8 @@ use Rattle.bs_sched.specs.declared.event.Event.{Event}
 pub record JournalView : Type 0 where
   -- its events, in their order
   pub events : List Event
-  -- whether they are one list
+  -- whether the core was not put together of others
   pub is_whole : Bool
-  -- the number of the events of its last list, and that of the events for which that has memory
+  -- the number of the entries of its last list, and that of the entries for which that has memory
   pub used : ℕ
   pub room : ℕ

@@ -2,7 +2,7 @@
 pub mod Answering
 pub mod Answers
 pub mod Assembling
-pub mod Busy
+pub mod Entries
 pub mod FrameEffects
 pub mod Frames
 pub mod Game

@@ -50,8 +50,6 @@ pub struct Core<const CAP: usize> {
     pub(crate) journal: Journal,
     /// The number of jobs that are out. The journal has room for the completion of each.
     pub(crate) out: usize,
-    /// For each worker, whether it has a Begin or a Join out.
-    pub(crate) busy: Vec<bool>,
     /// The row of the last job. The search for a ready job begins there and goes round, so that
     /// many takes do not each go over all open stays.
     pub(crate) cursor: usize,

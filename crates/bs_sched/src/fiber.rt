@@ -349,6 +349,17 @@ impl Fiber {
         }
     }
 
+    /// Whether the worker has the Begin or the Join out.
+    pub(crate) fn occupies(&self, worker: usize) -> bool
+        ensures { result ≡ occupies worker self.now }
+    {
+        match self.stage {
+            Stage::Begin(taker) => taker == worker,
+            Stage::Join(Some(taker)) => taker == worker,
+            _ => false,
+        }
+    }
+
     /// The Begin or the Join if it is ready.
     pub(crate) fn ready(&self) -> Option<JobKind>
         ensures { MatchOption result (HasNoneReady self.now) (λ job. is_ready self.now job 0 ≡ true) }

@@ -23,7 +23,7 @@ ghost use Rattle.bs_sched.specs.inner.Assembling.{renamed_game};
 ghost use Rattle.bs_sched.specs.inner.Inputs.{board_asked, current_input};
 ghost use Rattle.bs_sched.specs.Keyed.{IsKeyAt, IsKeyOf};
 ghost use Rattle.bs_sched.specs.inner.Keyed.{HasKeys};
-ghost use Rattle.bs_sched.specs.Lane.{goes_on, is_idle, is_in_parts, is_out, is_quiet, is_ready, kept_of, lane_command, lane_view, may_leave, with_taken};
+ghost use Rattle.bs_sched.specs.Lane.{goes_on, is_idle, is_in_parts, is_out, is_quiet, is_ready, kept_of, lane_command, lane_view, may_leave, occupies, with_taken};
 ghost use Rattle.bs_sched.specs.inner.Lane.{HasNoneReady};
 ghost use Rattle.bs_sched.specs.Answering.{AreNextParts};
 ghost use Rattle.bs_sched.specs.inner.Answering.{game_here, next_answer, number_behind, pool_here};
@@ -254,6 +254,13 @@ impl<const CAP: usize> Game<CAP> {
         ensures { result ≡ is_quiet self.now.lane }
     {
         self.fiber.is_quiet()
+    }
+
+    /// Whether the worker has the stay's Begin or Join out.
+    pub(crate) fn occupies(&self, worker: usize) -> bool
+        ensures { result ≡ occupies worker self.now.lane }
+    {
+        self.fiber.occupies(worker)
     }
 
     /// The number of parts of the move; 0 if no move is in progress.

@@ -1,6 +1,6 @@
 //! All stays of a core, and the pool of their blocks. Clauses see them as lanes and as the places
 //! of their records.
-ghost use Rattle.std.specs.Prelude.{◌≡◌, ◌+◌, ◌≤◌, ◌<◌, ◌∷◌, ◌++◌, [], true, false, All, length, OnOk, OnErr, IfOk, IfErr, MatchOption, ◌↔◌, IsTrue, ℕ, List, None, slice_index_or, slice_set};
+ghost use Rattle.std.specs.Prelude.{◌≡◌, ◌+◌, ◌≤◌, ◌<◌, ◌∷◌, ◌++◌, [], true, false, not, All, length, OnOk, OnErr, IfOk, IfErr, MatchOption, ◌↔◌, IsTrue, ℕ, List, None, slice_index_or, slice_set};
 ghost use Rattle.std.specs.List.{list_all, list_any};
 ghost use Rattle.bs_board.specs.plans.Plan.{IsFitPlan, is_fit_row};
 ghost use Rattle.bs_pool.specs.Ledger.{free, opened as new_pool, size};
@@ -13,9 +13,9 @@ ghost use Rattle.bs_sched.specs.inner.Assembling.{ArePlaced, IsOnly, games_of};
 ghost use Rattle.bs_sched.specs.inner.Journal.{core_of};
 ghost use Rattle.bs_sched.specs.Journal.{IsItsJournal};
 ghost use Rattle.bs_sched.specs.declared.event.Event.{Event};
-ghost use Rattle.bs_sched.specs.Lane.{answered, is_quiet, is_ready, is_out, lane_view, lane_command, may_leave};
+ghost use Rattle.bs_sched.specs.Lane.{answered, is_quiet, is_ready, is_out, lane_view, lane_command, may_leave, occupies};
 ghost use Rattle.bs_sched.specs.inner.Lane.{HasNoneReady};
-ghost use Rattle.bs_sched.specs.Machine.{lane_of, may_admit};
+ghost use Rattle.bs_sched.specs.Machine.{is_busy, lane_of, may_admit};
 ghost use Rattle.bs_sched.specs.declared.event.Event.TheVariants as event;
 ghost use Rattle.bs_block.specs.Bytes.{IsCapacity};
 ghost use Rattle.bs_registry.specs.Blocks.{blocks_of, blocks_of_all};
@@ -84,6 +84,20 @@ fn are_quiet<const CAP: usize>(games: &[Game<CAP>], stays: &[Listed<()>]) -> boo
 {
     for place in 0..stays.len() {
         if !games[stays[place].number].is_quiet() {
+            return false;
+        }
+    }
+    true
+}
+
+/// Whether the worker has no Begin and no Join of those stays out.
+#[tactic(auto, using(crate::proofs::OpenRows::some_busy, crate::proofs::OpenRows::all_quiet, crate::proofs::OpenRows::number_read, crate::proofs::ListedGames::lane_read))]
+fn are_free<const CAP: usize>(games: &[Game<CAP>], stays: &[Listed<()>], worker: usize) -> bool
+    requires { All (λ stay. stay.number < length games.now) stays.now }
+    ensures { result ≡ list_all (λ game. not (occupies worker (lane_of (lanes_in games.now) game))) (numbers_in stays.now) }
+{
+    for place in 0..stays.len() {
+        if games[stays[place].number].occupies(worker) {
             return false;
         }
     }
@@ -309,6 +323,14 @@ impl<const CAP: usize> Games<CAP> {
         ensures { result ≡ list_all is_quiet self.now.lanes }
     {
         are_quiet(&self.list, self.registry.as_slice())
+    }
+
+    /// Whether the worker has a Begin or a Join out.
+    #[tactic(auto, using(crate::proofs::ListedGames::listed_games))]
+    pub(crate) fn is_busy(&self, worker: usize) -> bool
+        ensures { result ≡ is_busy worker self.now.lanes }
+    {
+        !are_free(&self.list, self.registry.as_slice(), worker)
     }
 
     pub(crate) fn counts(&self) -> Counts

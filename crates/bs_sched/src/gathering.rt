@@ -4,7 +4,7 @@ ghost use Rattle.bs_sched.specs.inner.LoneStays.{AreNextStays, AreNumbersOf, Has
 
 use crate::game::Game;
 use crate::lone_stay::LoneStay;
-use crate::merging::Left;
+use crate::packed::Packed;
 use crate::plan_blocks::record_tag;
 use bs_pool::{Assembly, Pool};
 use bs_registry::MOST_STAYS;
@@ -14,7 +14,7 @@ use std::alloc::{AllocError, Global};
 #[derive(Drop)]
 pub(crate) struct GatheredStays<const CAP: usize> {
     pub(crate) list: Vec<Game<CAP>>,
-    pub(crate) journals: Vec<Left>,
+    pub(crate) journals: Vec<Packed>,
     pub(crate) assembly: Assembly<CAP>,
 }
 
@@ -55,7 +55,7 @@ impl<const CAP: usize> GatheredStays<CAP> {
             journal,
             pool,
         } = stay;
-        journals.push(Left::new(journal.into_vec(alloc)?))?;
+        journals.push(journal.into_packed(alloc)?)?;
         let (assembly, numbers) = lay_blocks(alloc, assembly, pool, row)?;
         game.rename(row, numbers.as_slice());
         list.push(game)?;

@@ -1,9 +1,12 @@
 //! The journal of a core.
-ghost use Rattle.std.specs.Prelude.{◌≡◌, ◌+◌, ◌++◌, ◌∷◌, [], ◌<◌, ◌≤◌, ◌^◌, true, false, length, IfOk, OnOk, MatchOption};
+ghost use Rattle.std.specs.Prelude.{◌≡◌, ◌↔◌, ◌+◌, ◌++◌, ◌∷◌, [], ◌<◌, ◌≤◌, ◌^◌, true, length, IfOk, IsTrue, OnOk};
+ghost use Rattle.bs_sched.specs.Answering.{answer_events};
 ghost use Rattle.bs_sched.specs.inner.Merging.{merged};
 
+use crate::entry::{Entry, push_all, share_onto};
 use crate::event::Event;
-use crate::merging::{Left, merge, share_all, share_onto};
+use crate::merging::merge;
+use crate::packed::{Packed, share_all_apart, take_all_apart};
 use crate::step::Step;
 use bs_registry::MOST_STAYS;
 use std::alloc::{AllocError, Global};
@@ -15,16 +18,17 @@ struct Unmerged {
     /// The acts of the file.
     order: Vec<Step>,
     /// The journal of each row's core.
-    lefts: Vec<Left>,
+    journals: Vec<Packed>,
 }
 
-/// The events of a core, in order. A core that was put together has the journals of its parts as
-/// they are: they are merged, event by event, by `into_vec` alone.
+/// The events of a core, in order. A command that is answered in place is kept as one entry, and a
+/// core that was put together has the journals of its parts as they are: `to_vec` and `into_vec`
+/// alone make a list of events of them.
 #[derive(Drop)]
 pub struct Journal {
     unmerged: Option<Unmerged>,
-    /// The events after those.
-    later: Vec<Event>,
+    /// The entries of the events after those.
+    later: Vec<Entry>,
 }
 
 impl Model for Journal {
@@ -52,18 +56,18 @@ impl Journal {
 
     /// The journal of a core that was put together: first the acts in their order, before each
     /// leave the jobs of the stay that leaves, then the jobs of the other stays.
-    pub(crate) fn unmerged(alloc: Global, order: Vec<Step>, lefts: Vec<Left>) -> Self
-        requires { length lefts.items ≤ MOST_STAYS }
-        ensures events { result.events ≡ merged order.items lefts.items }
+    pub(crate) fn unmerged(alloc: Global, order: Vec<Step>, journals: Vec<Packed>) -> Self
+        requires { length journals.items ≤ MOST_STAYS }
+        ensures events { result.events ≡ merged order.items journals.items }
         ensures room { result.used ≤ result.room }
     {
         Journal {
-            unmerged: Some(Unmerged { order, lefts }),
+            unmerged: Some(Unmerged { order, journals }),
             later: Vec::new(alloc),
         }
     }
 
-    /// Makes room for `more` events besides the completions of the jobs that are out. The sum
+    /// Makes room for `more` entries besides the completions of the jobs that are out. The sum
     /// cannot overflow, since each of the 64 open stays has at most four jobs out; an overflow
     /// would be reported as out of memory.
     pub(crate) fn reserve(&mut self, out: usize, more: usize) -> Result<(), AllocError>
@@ -78,23 +82,37 @@ impl Journal {
     }
 
     /// Appends an event, for which there is room.
+    #[tactic(auto, using(crate::proofs::Entries::one_more_entry))]
     pub(crate) fn note(&mut self, event: Event)
         requires { self.old.used < self.old.room }
         ensures events { self.new.events ≡ self.old.events ++ event ∷ [] }
         ensures used { self.new.used ≡ self.old.used + 1 }
         ensures room { self.new.room ≡ self.old.room }
     {
-        self.later.push_reserved(event);
+        self.later.push_reserved(Entry::of_event(event));
     }
 
-    /// The events, if they are one list: unless the core was put together of others.
-    pub fn as_slice(&self) -> Option<&[Event]>
-        ensures { MatchOption result (self.now.is_whole ≡ false)
-            (λ events. (self.now.is_whole ≡ true) × (events.now ≡ self.now.events)) }
+    /// Appends, as one entry, that the worker took and completed all jobs of a command with that
+    /// many parts.
+    #[tactic(auto, using(crate::proofs::Entries::one_more_entry))]
+    pub(crate) fn note_answer(&mut self, worker: u32, game: u32, parts: u8)
+        requires { self.old.used < self.old.room }
+        ensures events { self.new.events ≡ self.old.events ++ answer_events worker game parts }
+        ensures used { self.new.used ≡ self.old.used + 1 }
+        ensures room { self.new.room ≡ self.old.room }
+    {
+        let answer = Entry::Answered(worker, game, parts);
+        self.later.push_reserved(answer);
+    }
+
+    /// Whether there are no events, and the core was not put together of others.
+    #[tactic(auto, using(crate::proofs::Entries::none_counted, crate::proofs::Entries::count_none))]
+    pub fn is_empty(&self) -> bool
+        ensures { IsTrue result ↔ (self.now.is_whole ≡ true) × (self.now.events ≡ []) }
     {
         match self.unmerged {
-            None => Some(self.later.as_slice()),
-            Some(_) => None,
+            None => self.later.is_empty(),
+            Some(_) => false,
         }
     }
 
@@ -106,7 +124,7 @@ impl Journal {
         let mut events = match &self.unmerged {
             None => Vec::new(alloc),
             Some(unmerged) => {
-                let lefts = share_all(alloc, unmerged.lefts.as_slice())?;
+                let lefts = share_all_apart(alloc, unmerged.journals.as_slice())?;
                 merge(alloc, lefts, unmerged.order.as_slice())?
             }
         };
@@ -119,17 +137,27 @@ impl Journal {
     pub fn into_vec(self, alloc: Global) -> Result<Vec<Event>, AllocError>
         ensures { IfOk result (λ events. events.items ≡ self.events) }
     {
-        let Journal {
-            unmerged,
-            mut later,
-        } = self;
-        match unmerged {
-            None => Ok(later),
-            Some(Unmerged { order, lefts }) => {
-                let mut events = merge(alloc, lefts, order.as_slice())?;
-                events.append(&mut later)?;
-                Ok(events)
+        let Journal { unmerged, later } = self;
+        let mut events = match unmerged {
+            None => Vec::new(alloc),
+            Some(Unmerged { order, journals }) => {
+                let lefts = take_all_apart(alloc, journals)?;
+                merge(alloc, lefts, order.as_slice())?
             }
+        };
+        push_all(later, &mut events)?;
+        Ok(events)
+    }
+
+    /// The events, packed as they are, unless the core was put together of others: then they are
+    /// merged, and the error is the allocator's.
+    pub(crate) fn into_packed(self, alloc: Global) -> Result<Packed, AllocError>
+        ensures { IfOk result (λ packed. packed ≡ self.events) }
+    {
+        if self.unmerged.is_some() {
+            return Packed::of_events(alloc, self.into_vec(alloc)?);
         }
+        let Journal { later, .. } = self;
+        Ok(Packed::new(later))
     }
 }

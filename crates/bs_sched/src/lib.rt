@@ -5,8 +5,8 @@
 mod answering;
 mod answers;
 mod assembling;
-mod busy;
 mod cores;
+mod entry;
 mod event;
 mod fiber;
 mod game;
@@ -17,6 +17,7 @@ mod law;
 mod lone_stay;
 mod merging;
 mod opening;
+mod packed;
 mod parts;
 mod plan_blocks;
 mod putting;

@@ -80,17 +80,6 @@ impl Left {
         self.events.len()
     }
 
-    /// A copy, whose events share their commands and rows.
-    fn share(&self, alloc: Global) -> Result<Left, AllocError>
-        ensures { IfOk result (λ copy. copy ≡ self.now) }
-    {
-        let mut events = Vec::with_capacity(alloc, self.len())?;
-        let (first, rest) = self.events.as_slices();
-        share_onto(first, &mut events)?;
-        share_onto(rest, &mut events)?;
-        Ok(Left::new(events))
-    }
-
     #[tactic(auto, using(crate::proofs::Merged::is_first, crate::proofs::Merged::is_rest))]
     fn take_first(&mut self) -> Option<Event>
         ensures first { result ≡ first_event self.old }
@@ -262,25 +251,4 @@ pub(crate) fn merge(
     move_steps(alloc, &mut lefts, order, &mut journal)?;
     move_all_jobs(lefts, &mut journal)?;
     Ok(journal)
-}
-
-/// Copies the journals of cores.
-pub(crate) fn share_all(alloc: Global, lefts: &[Left]) -> Result<Vec<Left>, AllocError>
-    ensures { IfOk result (λ copies. copies.items ≡ lefts.now) }
-{
-    let mut copies = Vec::with_capacity(alloc, lefts.len())?;
-    for left in lefts {
-        copies.push(left.share(alloc)?)?;
-    }
-    Ok(copies)
-}
-
-/// Appends copies of these events.
-pub(crate) fn share_onto(events: &[Event], to: &mut Vec<Event>) -> Result<(), AllocError>
-    ensures { OnOk result (to.new.items ≡ to.old.items ++ events.now) }
-{
-    for event in events {
-        to.push(event.share()?)?;
-    }
-    Ok(())
 }

@@ -9,7 +9,6 @@ ghost use Rattle.bs_sched.specs.inner.Journal.{core_of};
 ghost use Rattle.bs_registry.specs.Blocks.{blocks_of_all};
 ghost use Rattle.bs_sched.specs.declared.opening.Open.TheVariants as cause;
 
-use crate::busy::nobody_busy;
 use crate::cores::{Core, LEAST_CAPACITY, MOST_SPARES, MOST_WORKERS};
 use crate::games::Games;
 use crate::journal::Journal;
@@ -82,12 +81,10 @@ impl<const CAP: usize> Core<CAP> {
         requires idle { All (λ x. is_idle x.stage ≡ true) games.lanes }
         ensures { IfOk result (λ core. core ≡ core_of games.entry journal.events) }
     {
-        let workers = games.workers();
         Ok(Core {
             games,
             journal,
             out: 0,
-            busy: nobody_busy(alloc, workers)?,
             cursor: 0,
             spares: Vec::with_capacity(alloc, MOST_SPARES)?,
         })

@@ -7,7 +7,6 @@ ghost use Rattle.bs_sched.specs.Journal.{setting_in};
 ghost use Rattle.bs_sched.specs.Parts.{AreOwnParts, IsOwnPart, core_run, puts_of};
 ghost use Rattle.bs_sched.specs.declared.event.Event.TheVariants as event;
 
-use crate::busy::mark;
 use crate::cores::Core;
 use crate::event::Event;
 use arrayvec::ArrayVec;
@@ -51,7 +50,6 @@ impl<const CAP: usize> Core<CAP> {
         let spent = self.games.complete(done);
         self.journal.note(Event::Put(number, job));
         self.out -= 1;
-        mark(&mut self.busy, worker, job.kind, false);
         keep_spare(&mut self.spares, spent);
     }
 

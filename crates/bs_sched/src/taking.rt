@@ -9,7 +9,6 @@ ghost use Rattle.bs_sched.specs.Taking.{HasKeyOf, TakesAs};
 ghost use Rattle.bs_sched.specs.inner.Taking.{AreNoneOpenReady, AreNoneReady, FindsJob};
 ghost use Rattle.bs_sched.specs.declared.event.Event.TheVariants as event;
 
-use crate::busy::{is_marked, mark};
 use crate::cores::Core;
 use crate::event::Event;
 use bs_counter::PartKey;
@@ -42,10 +41,9 @@ pub(crate) enum Found {
 impl<const CAP: usize> Core<CAP> {
     /// Whether the worker has a Begin or a Join out.
     fn is_busy(&self, worker: usize) -> bool
-        requires { worker ≤ self.now.games.workers }
         ensures { result ≡ is_busy worker self.now.games.lanes }
     {
-        is_marked(self.busy.as_slice(), worker)
+        self.out > 0 && self.games.is_busy(worker)
     }
 
     /// Does nothing. Gives the prover that if no open stay has a job ready, no stay has one: a stay
@@ -60,7 +58,6 @@ impl<const CAP: usize> Core<CAP> {
     /// Finds a job for the worker: in the game of the last job, while that has a ready job; then in
     /// the later games, then in the earlier ones.
     pub(crate) fn find(&self, worker: usize) -> Found
-        requires { worker ≤ self.now.games.workers }
         ensures { FindsJob worker self.now.games.lanes result }
     {
         if self.is_busy(worker) {
@@ -97,7 +94,6 @@ impl<const CAP: usize> Core<CAP> {
         let taken = self.games.take_job(alloc, number, job, self.spares.pop())?;
         self.journal.note(Event::Take(number, job));
         self.out += 1;
-        mark(&mut self.busy, worker, job.kind, true);
         self.cursor = job.game as usize;
         Ok(taken)
     }

@@ -262,10 +262,7 @@ impl<const CAP: usize, G: Gate> Alone<'_, CAP, G> {
     pub(crate) fn is_new(&self) -> bool
         ensures { IsTrue result → self.now.core.journal ≡ [] }
     {
-        match self.core.journal().as_slice() {
-            Some(events) => events.is_empty(),
-            None => false,
-        }
+        self.core.journal().is_empty()
     }
 
     /// Makes the acts in order, and answers all commands.

@@ -155,7 +155,7 @@ fn check_opened(alloc: Global, core: &Core<CAP>) -> Result<(), Fail> {
 /// What the readers of a core of one game return.
 #[derive(Clone, Copy, Debug, PartialEq, Eq)]
 struct Readings {
-    events: Option<usize>,
+    events: usize,
     counts: Counts,
     taken: usize,
     replies: usize,
@@ -164,10 +164,10 @@ struct Readings {
     is_quiet: bool,
 }
 
-fn read_all(core: &Core<CAP>) -> Result<Readings, Fail> {
+fn read_all(alloc: Global, core: &Core<CAP>) -> Result<Readings, Fail> {
     holds("a game", core.rows() == 1)?;
     Ok(Readings {
-        events: core.journal().as_slice().map(|events| events.len()),
+        events: core.journal().to_vec(alloc)?.len(),
         counts: core.counts(),
         taken: core.taken(0).len(),
         replies: core.replies(0).len(),
@@ -193,10 +193,10 @@ fn check_refused_put(core: &mut Core<CAP>, worker: usize, done: Done<CAP>) -> Re
 fn check_two_strays(alloc: Global, core: &mut Core<CAP>, foreign: Done<CAP>) -> Result<(), Fail> {
     hand(alloc, core, 0, Command::Show)?;
     let done = take_done(alloc, core, 0)?;
-    let before = read_all(core)?;
+    let before = read_all(alloc, core)?;
     check_refused_put(core, 0, foreign)?;
     check_refused_put(core, 1, done)?;
-    same("readings", read_all(core)?, before)?;
+    same("readings", read_all(alloc, core)?, before)?;
     check_free(core, 5)?;
     same("commands taken", before.taken, 2)?;
     check_turn(alloc, core, 0)
@@ -234,15 +234,15 @@ fn put_begin(alloc: Global, core: &mut Core<CAP>, done: Done<CAP>) -> Result<(),
 
 /// Checks that the Begin of another core is a stray, before and while a job is out.
 fn check_foreign(alloc: Global, core: &mut Core<CAP>, foreign: Done<CAP>) -> Result<(), Fail> {
-    let foreign = check_stray(core, foreign)?;
+    let foreign = check_stray(alloc, core, foreign)?;
     check_job(&foreign, JobKind::Begin, 0)?;
-    check_replies(core, 1)?;
+    check_replies(alloc, core, 1)?;
     check_two_strays(alloc, core, foreign)
 }
 
 /// Checks the number of replies.
-fn check_replies(core: &Core<CAP>, replies: usize) -> Result<(), Fail> {
-    same("replies", read_all(core)?.replies, replies)
+fn check_replies(alloc: Global, core: &Core<CAP>, replies: usize) -> Result<(), Fail> {
+    same("replies", read_all(alloc, core)?.replies, replies)
 }
 
 fn check_nothing(alloc: Global, core: &mut Core<CAP>, worker: usize) -> Result<(), Fail> {
@@ -251,32 +251,36 @@ fn check_nothing(alloc: Global, core: &mut Core<CAP>, worker: usize) -> Result<(
 }
 
 /// Checks that the core refuses the result, and that this leaves it unchanged.
-fn check_stray(core: &mut Core<CAP>, done: Done<CAP>) -> Result<Done<CAP>, Fail> {
-    let before = read_all(core)?;
+fn check_stray(alloc: Global, core: &mut Core<CAP>, done: Done<CAP>) -> Result<Done<CAP>, Fail> {
+    let before = read_all(alloc, core)?;
     let Err(stray) = core.put(0, done) else {
         return Err(Fail::from("no stray"));
     };
-    same("readings", read_all(core)?, before)?;
+    same("readings", read_all(alloc, core)?, before)?;
     Ok(stray.done)
 }
 
 /// Checks that the core refuses the list, and that this leaves it unchanged.
-fn check_strays(core: &mut Core<CAP>, parts: DoneParts) -> Result<DoneParts, Fail> {
-    let before = read_all(core)?;
+fn check_strays(alloc: Global, core: &mut Core<CAP>, parts: DoneParts) -> Result<DoneParts, Fail> {
+    let before = read_all(alloc, core)?;
     let Err(strays) = core.put_parts(parts) else {
         return Err(Fail::from("not all parts of the move"));
     };
-    same("readings", read_all(core)?, before)?;
+    same("readings", read_all(alloc, core)?, before)?;
     Ok(strays.parts)
 }
 
 /// A part by itself is a stray, and so is a list of it alone while the move has two parts.
-fn check_part_strays(core: &mut Core<CAP>, done: Done<CAP>) -> Result<Done<CAP>, Fail> {
-    let done = check_stray(core, done)?;
-    drop(check_strays(core, ArrayVec::new())?);
+fn check_part_strays(
+    alloc: Global,
+    core: &mut Core<CAP>,
+    done: Done<CAP>,
+) -> Result<Done<CAP>, Fail> {
+    let done = check_stray(alloc, core, done)?;
+    drop(check_strays(alloc, core, ArrayVec::new())?);
     let mut one = ArrayVec::new();
     one.push(Some(done));
-    let mut one = check_strays(core, one)?;
+    let mut one = check_strays(alloc, core, one)?;
     holds("the list of one part", one.len() == 1)?;
     Ok(one.remove(0).ok_or("the part")?)
 }
@@ -299,7 +303,7 @@ fn play_parts(alloc: Global, core: &mut Core<CAP>) -> Result<(), Fail> {
     let (one, first_key) = take_part_of(alloc, core, 0, 0)?;
     let (two, second_key) = take_part_of(alloc, core, 0, 1)?;
     check_nothing(alloc, core, 1)?;
-    let one = check_part_strays(core, one)?;
+    let one = check_part_strays(alloc, core, one)?;
     holds("one part is missing", finish(second_key, two)?.is_none())?;
     check_nothing(alloc, core, 1)?;
     let parts = finish(first_key, one)?.ok_or("the last part")?;
@@ -354,7 +358,7 @@ fn play_move(alloc: Global, core: &mut Core<CAP>) -> Result<(), Fail> {
 /// Checks a core of one game that has answered a `new` and a move.
 pub(crate) fn check_moved(alloc: Global, core: &Core<CAP>) -> Result<(), Fail> {
     check_free(core, 5)?;
-    let readings = read_all(core)?;
+    let readings = read_all(alloc, core)?;
     same("charge", readings.charge, 128)?;
     same("records", readings.records, 2)?;
     same("replies", readings.replies, 2)?;
@@ -393,11 +397,11 @@ fn play_counted_join(alloc: Global, core: &mut Core<CAP>) -> Result<(), Fail> {
     check_free(core, 3)?;
     put(core, 0, join)?;
     check_free(core, 5)?;
-    check_charge(core, 128)
+    check_charge(alloc, core, 128)
 }
 
-fn check_charge(core: &Core<CAP>, charge: u32) -> Result<(), Fail> {
-    same("charge", read_all(core)?.charge, charge)
+fn check_charge(alloc: Global, core: &Core<CAP>, charge: u32) -> Result<(), Fail> {
+    same("charge", read_all(alloc, core)?.charge, charge)
 }
 
 #[test]
@@ -461,7 +465,7 @@ fn check_plain(core: &Core<CAP>, number: usize, (word, charge): (Word, u32)) -> 
 }
 
 pub(crate) fn check_over_quota(alloc: Global, core: &Core<CAP>) -> Result<(), Fail> {
-    let readings = read_all(core)?;
+    let readings = read_all(alloc, core)?;
     same("replies", readings.replies, 7)?;
     same("records", readings.records, 2)?;
     check_shown(alloc, core, 0, (Word::New, 0, 32))?;
@@ -513,7 +517,7 @@ fn two_cores_hold_one_command(rt: HostRuntime) -> Result<(), Fail> {
 
 /// Checks the replies to the same `new` twice.
 fn check_answered_twice(alloc: Global, core: &Core<CAP>) -> Result<(), Fail> {
-    check_replies(core, 2)?;
+    check_replies(alloc, core, 2)?;
     check_shown(alloc, core, 0, (Word::New, 0, 32))?;
     check_refused(core, 1, Refusal::Running)
 }
@@ -539,7 +543,7 @@ fn fail_with_a_job_out(alloc: Global, core: &mut Core<CAP>) -> Result<(), Fail> 
     check_failed(alloc, core, 0)?;
     check_failed(alloc, core, 1)?;
     put(core, 0, done)?;
-    check_replies(core, 1)?;
+    check_replies(alloc, core, 1)?;
     check_failed(alloc, core, 0)
 }
 

@@ -108,7 +108,7 @@ fn a_stay_comes_and_goes(rt: HostRuntime) -> Result<(), Fail> {
     play_and_leave(alloc, &mut core)?;
     admit_c(alloc, &mut core)?;
     // Three admissions and leaves; one command was queued, and its job taken and completed.
-    let events = core.journal().as_slice().ok_or("one list of events")?;
+    let events = core.journal().to_vec(alloc)?;
     same("events", events.len(), 6)
 }
 

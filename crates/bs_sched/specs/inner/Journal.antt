@@ -5,7 +5,6 @@ use Rattle.bs_sched.specs.declared.stage.Stage.{Stage}
 use Rattle.bs_sched.specs.declared.stage.Stage.TheVariants as stage
 use Rattle.bs_sched.specs.PartState.{PartState}
 use Rattle.bs_sched.specs.PartState as part
-use Rattle.bs_sched.specs.inner.Busy.{IsBusyTable}
 use Rattle.bs_sched.specs.declared.event.Event.{Event}
 use Rattle.bs_sched.specs.Core.{CoreView}
 use Rattle.bs_sched.specs.Games.{GamesView}
@@ -43,4 +42,3 @@ pub record IsJournaled (cap : ℕ) {at : ℕ} (c : Inside at) : Type 0 where
   pub journal : IsItsJournal cap (core_in c)
   pub out : c.out ≡ jobs_out c.games.lanes
   pub room : c.journal.used + c.out ≤ c.journal.room
-  pub busy : IsBusyTable c.games.workers c.games.lanes c.busy.items

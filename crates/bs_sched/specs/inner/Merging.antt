@@ -9,6 +9,7 @@ use Rattle.bs_sched.specs.declared.step.Step.TheVariants as step
 use Rattle.bs_sched.specs.declared.journal.Journal.TheInside.{Inside}
 use Rattle.bs_sched.specs.Assembly.{jobs_at}
 use Rattle.bs_sched.specs.Events.{JournalView}
+use Rattle.bs_sched.specs.inner.Entries.{all_events}
 
 -- the event with that row, if it queues a command
 abbrev pub hand_at : ℕ → Event → Option Event
@@ -62,12 +63,12 @@ merged order lefts = acts_taken order lefts ++ all_jobs 0 (lefts_after order lef
 -- the events of the cores that a core was put together of
 abbrev pub unmerged_events : Option Unmerged → List Event
 unmerged_events None = []
-unmerged_events (Some u) = merged u.order.items u.lefts.items
+unmerged_events (Some u) = merged u.order.items u.journals.items
 
 abbrev pub journal_in : Inside → JournalView
 journal_in j =
     record {
-      events = unmerged_events j.unmerged ++ j.later.items;
+      events = unmerged_events j.unmerged ++ all_events j.later.items;
       is_whole = not (is_some j.unmerged);
       used = vec_len j.later;
       room = vec_capacity j.later;
@@ -76,4 +77,4 @@ journal_in j =
 -- there are no more of them than stays
 abbrev pub AreFew : Option Unmerged → Type 0
 AreFew None = Unit {0}
-AreFew (Some u) = length u.lefts.items ≤ MOST_STAYS
+AreFew (Some u) = length u.journals.items ≤ MOST_STAYS

@@ -20,13 +20,13 @@ invariant_of-self-2 g c =
     let enabled : is_enabled_there inside.games.workers inside.games.lanes (event.Take worker (begin_job game)) ≡ true
     = subst (λ (v : CoreView). is_enabled_there v.games.workers v.games.lanes (event.Take worker (begin_job game)) ≡ true) (sym c.self.view_is) c.requires in
     let n = c.next_parts-parts.result in
-    let items : c.note_answer.new.journal.events ≡ inside.journal.events ++ answer_events worker game n
+    let items : c.note_answer.new.self.events ≡ inside.journal.events ++ answer_events worker game n
     = rw (c.note_answer.ensures.events, c.worker_number-number.ensures, c.row_number-row.ensures, c.reserve.ensures.events) refl in
     let used = c.note_answer.ensures.used in
     let same = c.note_answer.ensures.room in
     let room = c.in_ok-reserve.ensures.room in
     journaled_here g.row.CAP inside _ worker game n (answered (begun (lane_of inside.games.lanes game))) c.self.invariant enabled c.next_parts-parts.ensures
-    (c.in_ok-answer_here.ensures.ok worker) c.in_ok-answer_here.ensures.lanes refl items refl (omega (arith, used, same, room)) refl
+    (c.in_ok-answer_here.ensures.ok worker) c.in_ok-answer_here.ensures.lanes refl items refl (omega (arith, used, same, room))
 
 pub worker_number-number-requires : goal.worker_number-number-requires
 worker_number-number-requires g c =
@@ -68,11 +68,14 @@ answer_here-requires g c =
     let at = ready_here inside.games.workers inside.games.lanes worker game enabled in
     (omega arith, (at.0, (at.1, c.next_parts-parts.ensures)))
 
+pub overflow_cast-parts : goal.overflow_cast-parts
+overflow_cast-parts g c = let few = c.next_parts-parts.ensures.few in omega (arith, few)
+
 pub note_answer-requires : goal.note_answer-requires
 note_answer-requires g c =
-    let few = c.next_parts-parts.ensures.few in
     let room = c.in_ok-reserve.ensures.room in
-    record { few = few; room = omega (arith, few, room) }
+    let used = c.reserve.ensures.used in
+    omega (arith, room, used)
 
 pub returns-clause-enabled : goal.returns-clause-enabled
 returns-clause-enabled g c =
@@ -103,7 +106,7 @@ returns-clause-ok g c =
     let are = c.next_parts-parts.ensures in
     let core = core_in inside in
     let events = answer_events worker game n in
-    let items : c.note_answer.new.journal.events ≡ inside.journal.events ++ events
+    let items : c.note_answer.new.self.events ≡ inside.journal.events ++ events
     = rw (c.note_answer.ensures.events, c.worker_number-number.ensures, c.row_number-row.ensures, c.reserve.ensures.events) refl in
     let games = c.in_ok-answer_here.ensures.ok worker in
     let is = (λ i. record { games = games i; journal = items i }) ∙ sym (core_runs g.row.CAP core events)

@@ -5,7 +5,6 @@ use Rattle.bs_sched.specs.declared.event.Event.TheVariants as event
 use Rattle.bs_sched.specs.Core.{CoreView}
 use Rattle.bs_sched.specs.Lane.{may_leave}
 use Rattle.bs_sched.specs.Machine.{is_enabled_there, lane_of}
-use Rattle.bs_sched.proofs.BusyTable.{leave_marks_none}
 use Rattle.bs_sched.proofs.JobsOut.{as_many_left}
 use Rattle.bs_sched.proofs.Journaled.{journaled_after}
 use Rattle.bs_sched.proofs.cores.Core.close_stay.Goals as goal
@@ -26,4 +25,3 @@ invariant_of-self-2 g c =
     let room = c.in_ok-reserve.ensures.room in
     journaled_after g.row.CAP inside e _ c.self.invariant enabled tt c.leave.ensures items
     (c.self.invariant.out ∙ sym (as_many_left inside.games.lanes game within)) (omega (arith, used, same, room))
-    (leave_marks_none inside.games.workers inside.games.lanes inside.busy.items game within c.self.invariant.busy)

@@ -4,7 +4,6 @@ use Rattle.std.proofs.lemmas.Bool.{lt-ltb}
 use Rattle.bs_sched.specs.declared.event.Event.TheVariants as event
 use Rattle.bs_sched.specs.Core.{CoreView}
 use Rattle.bs_sched.specs.Machine.{is_enabled_there, lane_of}
-use Rattle.bs_sched.proofs.BusyTable.{hand_marks_none}
 use Rattle.bs_sched.proofs.JobsOut.{as_many_handed}
 use Rattle.bs_sched.proofs.Journaled.{journaled_after}
 use Rattle.bs_sched.proofs.cores.Core.hand.Goals as goal
@@ -25,4 +24,3 @@ invariant_of-self-2 g c =
     let room = c.in_ok-reserve.ensures.room in
     journaled_after g.row.CAP inside e _ c.self.invariant enabled (rw c.get.ensures at c.keeps_limits.ensures) c.in_ok-hand.ensures.ok items
     (c.self.invariant.out ∙ sym (as_many_handed inside.games.lanes c.args.game command within)) (omega (arith, used, same, room))
-    (hand_marks_none inside.games.workers inside.games.lanes inside.busy.items c.args.game command within c.self.invariant.busy)

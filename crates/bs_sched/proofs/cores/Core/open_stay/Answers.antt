@@ -3,7 +3,6 @@ use Rattle.bs_sched.specs.declared.event.Event.TheVariants as event
 use Rattle.bs_sched.specs.Core.{CoreView}
 use Rattle.bs_sched.specs.Games.{setting_of}
 use Rattle.bs_sched.specs.Machine.{is_enabled, may_admit}
-use Rattle.bs_sched.proofs.BusyTable.{admit_marks_none}
 use Rattle.bs_sched.proofs.JobsOut.{as_many_admitted}
 use Rattle.bs_sched.proofs.Journaled.{journaled_after}
 use Rattle.bs_sched.proofs.cores.Core.open_stay.Goals as goal
@@ -27,4 +26,3 @@ invariant_of-self-2 g c =
     let room = c.in_ok-reserve.ensures.room in
     journaled_after g.row.CAP inside e _ c.self.invariant enabled c.keeps_row.ensures c.in_ok-game.ensures.ok items
     (c.self.invariant.out ∙ sym (as_many_admitted inside.games.lanes row)) (omega (arith, used, same, room))
-    (admit_marks_none inside.games.workers inside.games.lanes inside.busy.items row c.self.invariant.busy)

@@ -1,12 +1,10 @@
-use Rattle.std.proofs.Common.{◌≡◌, ◌-◌, true, false, ◌∷◌, ◌++◌, [], refl, sym, ap, subst, ◌∙◌, arith}
+use Rattle.std.proofs.Common.{◌≡◌, ◌-◌, true, ◌∷◌, ◌++◌, [], refl, sym, ap, subst, ◌∙◌, arith}
 use Rattle.bs_fiber.specs.declared.input.Input.{Input}
 use Rattle.bs_fiber.specs.Tickets.{TicketView}
 use Rattle.bs_sched.specs.declared.event.Event.TheVariants as event
 use Rattle.bs_sched.specs.Core.{CoreView}
 use Rattle.bs_sched.specs.Machine.{is_enabled_there, lane_effect}
 use Rattle.bs_sched.specs.inner.Journal.{jobs_out}
-use Rattle.bs_sched.specs.inner.Busy.{IsBusyTable, marked}
-use Rattle.bs_sched.proofs.BusyTable.{put_marks}
 use Rattle.bs_sched.proofs.JobsOut.{one_less_out}
 use Rattle.bs_sched.proofs.Journaled.{journaled_after}
 use Rattle.bs_sched.proofs.cores.Core.put_own.Goals as goal
@@ -26,7 +24,4 @@ invariant_of-self g c =
     let used = c.note.ensures.used in
     let same = c.note.ensures.room in
     let room = c.self.invariant.room in
-    let marks : c.mark.new.busy.items ≡ marked c.args.done.input.job.kind c.args.worker false inside.busy.items = rw (c.mark.ensures, job) refl in
     journaled_after g.row.CAP inside e _ c.self.invariant enabled tt c.complete-spent.ensures items fewer (omega (arith, counted, less, used, same, room))
-    (subst (IsBusyTable inside.games.workers (lane_effect inside.games.lanes e)) (sym marks)
-    (put_marks inside.games.workers inside.games.lanes inside.busy.items c.args.worker c.args.done.input.job enabled c.self.invariant.busy))

@@ -1,9 +1,7 @@
 use Rattle.std.proofs.Common.{◌≡◌, ◌+◌, true, ◌∷◌, ◌++◌, [], refl, sym, ap, subst, ◌∙◌, arith}
 use Rattle.bs_sched.specs.declared.event.Event.TheVariants as event
 use Rattle.bs_sched.specs.Core.{CoreView}
-use Rattle.bs_sched.specs.Machine.{is_enabled_there, lane_effect}
-use Rattle.bs_sched.specs.inner.Busy.{IsBusyTable}
-use Rattle.bs_sched.proofs.BusyTable.{take_marks}
+use Rattle.bs_sched.specs.Machine.{is_enabled_there}
 use Rattle.bs_sched.proofs.JobsOut.{one_more_out}
 use Rattle.bs_sched.proofs.Journaled.{journaled_told}
 use Rattle.bs_sched.proofs.cores.Core.take_job.Goals as goal
@@ -21,5 +19,3 @@ invariant_of-self-2 g c =
     let room = c.in_ok-reserve.ensures.room in
     journaled_told g.row.CAP inside e c.take_job.new.self.tallies _ c.self.invariant enabled tt (rw c.worker_number-number.ensures at c.in_ok-taken.ensures.ok) items
     (ap (λ n. n + 1) c.self.invariant.out ∙ sym more) (omega (arith, used, same, room))
-    (subst (IsBusyTable inside.games.workers (lane_effect inside.games.lanes e)) (sym c.mark.ensures)
-    (take_marks inside.games.workers inside.games.lanes inside.busy.items c.args.worker c.args.job enabled c.self.invariant.busy))

@@ -40,7 +40,7 @@ returns g c =
     ∙ ap (λ (w : GameView). map without_tally list ++ w ∷ []) placed in
     let journals : c.push.new.self.items ≡ c.args.self.journals.items ++ stay.journal ∷ []
     = c.in_ok-push.ensures.items ∙ ap (λ (es : List Event). c.args.self.journals.items ++ es ∷ [])
-    (c.new.ensures ∙ c.in_ok-into_vec.ensures ∙ ap (λ (v : LoneView). v.journal) is) in
+    (c.in_ok-into_packed.ensures ∙ ap (λ (v : LoneView). v.journal) is) in
     let assembly : c.in_ok-assembly.assembly ≡ laid_if row stay.pool c.args.self.assembly
     = c.in_ok-assembly.ensures.assembly ∙ ap (λ (v : LoneView). laid_if row v.pool c.args.self.assembly) is in
     (λ i. gathered_of (games i) (journals i) (assembly i))
