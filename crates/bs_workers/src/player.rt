@@ -14,7 +14,6 @@ use crate::alone::Alone;
 use crate::boxed::BoxedStay;
 use crate::fault::Run;
 use crate::gate::Gate;
-use crate::heap::grow_heap;
 use crate::stays::Stays;
 use crate::stop::Stop;
 use crate::together::Together;
@@ -205,7 +204,6 @@ impl<R: Threads + Sync, G: Gate> Player<'_, R, G> {
         if row >= self.stays.rows.len() {
             return Err(Stop::Failed);
         }
-        grow_heap(self.alloc);
         let core = self.open(self.stays.rows[row].get(), blocks)?;
         let core = self.run_row(thread, threads, row, core)?;
         let stay = self.close(row, core, blocks)?;
