@@ -1,9 +1,8 @@
 //! The lines of a file, parsed by several threads: each parses one share of the text.
-ghost use Rattle.std.specs.Prelude.{◌≡◌, ◌++◌, ◌∷◌, [], ◌+◌, ◌<◌, ◌≤◌, ℕ, length, IfOk, IfSome};
-ghost use Rattle.std.specs.Thread.{IsSync};
+ghost use Rattle.std.specs.Prelude.{◌≡◌, ◌<◌, All, IfOk, IfSome, None, OnOk, Some, length, slice_index_or, slice_set};
 ghost use Rattle.bs_json.specs.Line.{line_of};
 ghost use Rattle.bs_host.specs.File.{pieces_of};
-ghost use Rattle.bs_host.specs.inner.Parsed.{all_lines, parsed_line, parsed_lines, pieces_in};
+ghost use Rattle.bs_host.specs.inner.Parsed.{AreShares, IsShare, all_lines, parsed_line, parsed_lines, pieces_in};
 
 use crate::lines::{split_from, split_line};
 use bs_board::{Command, Id, Version};
@@ -117,7 +116,7 @@ const FEWEST_BYTES: usize = 32_768;
 
 /// The number of chunks for each thread. A thread that starts late or has longer lines leaves some
 /// of them to the others.
-const CHUNKS_PER_THREAD: usize = 4;
+const CHUNKS_PER_THREAD: usize = 16;
 
 /// The size of the chunks in which at most that many threads parse a text of that length.
 fn chunk_size(len: usize, threads: usize) -> usize {
@@ -128,6 +127,7 @@ fn chunk_size(len: usize, threads: usize) -> usize {
 }
 
 /// Cuts a text at line feeds into chunks of at least `size` bytes; the last one may be shorter.
+#[tactic(auto, using(crate::proofs::ParsedLines::one_more_chunk, crate::proofs::ParsedLines::last_chunk))]
 fn cut_text(alloc: Global, text: &[u8], size: usize) -> Result<Vec<&[u8]>, AllocError>
     ensures { IfOk result (λ chunks. pieces_in chunks.items ≡ pieces_of text.now) }
 {
@@ -160,7 +160,9 @@ struct Slots {
 
 impl Slots {
     /// Slots of which none is filled.
-    fn new(alloc: Global, many: usize) -> Result<Self, AllocError> {
+    fn new(alloc: Global, many: usize) -> Result<Self, AllocError>
+        ensures { IfOk result (λ slots. All (λ slot. slot ≡ None) slots.shares.items) }
+    {
         let mut shares = Vec::with_capacity(alloc, many)?;
         for _ in 0..many {
             shares.push(None)?;
@@ -168,21 +170,29 @@ impl Slots {
         Ok(Slots { shares })
     }
 
-    /// Fills the slot of the chunk.
-    fn put(&mut self, parsed: ParsedChunk) {
-        let ParsedChunk { number, share } = parsed;
+    /// Fills the slot of that number, if there is one.
+    fn put(&mut self, number: usize, share: Share)
+        ensures { self.new.shares.items ≡ slice_set self.old.shares.items number (Some share) }
+    {
         if number < self.shares.len() {
             self.shares[number] = Some(share);
         }
     }
 
-    /// Takes the share of the chunk of that number, if the slot is filled.
-    fn take(&mut self, number: usize) -> Option<Share> {
-        self.shares.get_mut(number)?.take()
+    /// Empties the slot of that number, and returns what was in it.
+    fn take(&mut self, number: usize) -> Option<Share>
+        ensures taken { result ≡ slice_index_or self.old.shares.items number None }
+        ensures left { self.new.shares.items ≡ slice_set self.old.shares.items number None }
+    {
+        if number < self.shares.len() {
+            self.shares[number].take()
+        } else {
+            None
+        }
     }
 }
 
-/// The chunks of a text, which threads take one after the other.
+/// Threads that parse the chunks of a text, one after the other.
 #[derive(Drop)]
 struct Parser<'a, R> {
     rt: &'a R,
@@ -195,7 +205,9 @@ struct Parser<'a, R> {
 
 impl<R: Threads + Sync> Parser<'_, R> {
     /// The number of the next chunk. Each is returned once.
-    fn next(&self) -> Option<usize> {
+    fn next(&self) -> Option<usize>
+        ensures { IfSome result (λ number. number < length self.now.chunks.items) }
+    {
         let number = self.next.fetch_add(1, Ordering::SeqCst) as usize;
         if number < self.chunks.len() {
             Some(number)
@@ -204,43 +216,101 @@ impl<R: Threads + Sync> Parser<'_, R> {
         }
     }
 
+    /// Parses the chunk of that number.
+    fn parse_chunk(&self, number: usize) -> Result<Share, AllocError>
+        requires { number < length self.now.chunks.items }
+        ensures { IfOk result (IsShare self.now.version self.now.chunks.items number) }
+    {
+        parse_share(self.alloc, self.version, self.chunks[number])
+    }
+
     /// Parses chunks until none is left.
-    fn parse_chunks(&self) -> Result<Vec<ParsedChunk>, AllocError> {
-        let mut parsed = Vec::new(self.alloc);
+    fn parse_chunks(&self) -> Result<Vec<ParsedChunk>, AllocError>
+        ensures { IfOk result (λ list. All (λ parsed. IsShare self.now.version self.now.chunks.items parsed.number parsed.share) list.items) }
+    {
+        let mut list = Vec::new(self.alloc);
         for _ in 0..self.chunks.len() {
             let Some(number) = self.next() else {
                 break;
             };
-            let share = parse_share(self.alloc, self.version, self.chunks[number])?;
-            parsed.push(ParsedChunk { number, share })?;
+            let share = self.parse_chunk(number)?;
+            list.push(ParsedChunk { number, share })?;
         }
-        Ok(parsed)
+        Ok(list)
     }
 
-    /// Has that many threads parse chunks.
-    fn parse_all(&self, threads: usize, slots: &mut Slots) -> Result<(), AllocError> {
-        let lists = map_indices(
-            self.rt,
-            self.alloc,
-            threads,
-            &|_thread: usize| -> Result<Vec<ParsedChunk>, AllocError> { self.parse_chunks() },
-        )?;
-        for list in lists {
-            for parsed in list? {
-                slots.put(parsed);
+    /// Puts the shares that a thread has parsed into their slots.
+    #[tactic(auto, using(crate::proofs::ParsedLines::one_more_share))]
+    fn keep(&self, mut list: Vec<ParsedChunk>, slots: &mut Slots)
+        requires parsed { All (λ parsed. IsShare self.now.version self.now.chunks.items parsed.number parsed.share) list.items }
+        requires before { AreShares self.now.version self.now.chunks.items slots.old.shares.items }
+        ensures { AreShares self.now.version self.now.chunks.items slots.new.shares.items }
+    {
+        for _ in 0..list.len() {
+            if let Some(ParsedChunk { number, share }) = list.pop() {
+                slots.put(number, share);
+            }
+        }
+    }
+
+    /// Puts the shares that all threads have parsed into their slots.
+    fn keep_all(
+        &self,
+        mut lists: Vec<Result<Vec<ParsedChunk>, AllocError>>,
+        slots: &mut Slots,
+    ) -> Result<(), AllocError>
+        requires parsed { All (λ some. IfOk some (λ list. All (λ parsed. IsShare self.now.version self.now.chunks.items parsed.number parsed.share) list.items)) lists.items }
+        requires before { AreShares self.now.version self.now.chunks.items slots.old.shares.items }
+        ensures { OnOk result (AreShares self.now.version self.now.chunks.items slots.new.shares.items) }
+    {
+        for _ in 0..lists.len() {
+            if let Some(list) = lists.pop() {
+                self.keep(list?, slots);
             }
         }
         Ok(())
     }
 
-    /// The share of each chunk, in order. The calling thread parses those that no thread has parsed.
-    fn in_order(&self, mut slots: Slots) -> Result<Vec<Share>, AllocError> {
+    /// Has that many threads parse chunks.
+    fn parse_all(&self, threads: usize, slots: &mut Slots) -> Result<(), AllocError>
+        requires { AreShares self.now.version self.now.chunks.items slots.old.shares.items }
+        ensures { OnOk result (AreShares self.now.version self.now.chunks.items slots.new.shares.items) }
+    {
+        let lists = map_indices(
+            self.rt,
+            self.alloc,
+            threads,
+            &|_thread: usize| -> Result<Vec<ParsedChunk>, AllocError>
+                ensures { IfOk result (λ list. All (λ parsed. IsShare self.entry.now.version self.entry.now.chunks.items parsed.number parsed.share) list.items) }
+            { self.parse_chunks() },
+        )?;
+        self.keep_all(lists, slots)?;
+        Ok(())
+    }
+
+    /// The share of the chunk of that number. The calling thread parses it if no thread has.
+    #[tactic(auto, using(crate::proofs::ParsedLines::one_share_less))]
+    fn share_of(&self, number: usize, slots: &mut Slots) -> Result<Share, AllocError>
+        requires number { number < length self.now.chunks.items }
+        requires before { AreShares self.now.version self.now.chunks.items slots.old.shares.items }
+        ensures share { IfOk result (IsShare self.now.version self.now.chunks.items number) }
+        ensures left { AreShares self.now.version self.now.chunks.items slots.new.shares.items }
+    {
+        match slots.take(number) {
+            Some(share) => Ok(share),
+            None => self.parse_chunk(number),
+        }
+    }
+
+    /// The share of each chunk, in order.
+    #[tactic(auto, using(crate::proofs::ParsedLines::next_share))]
+    fn in_order(&self, mut slots: Slots) -> Result<Vec<Share>, AllocError>
+        requires { AreShares self.now.version self.now.chunks.items slots.shares.items }
+        ensures { IfOk result (λ shares. all_lines shares.items ≡ parsed_lines self.now.version (pieces_in self.now.chunks.items)) }
+    {
         let mut shares = Vec::with_capacity(self.alloc, self.chunks.len())?;
         for number in 0..self.chunks.len() {
-            let share = match slots.take(number) {
-                Some(share) => share,
-                None => parse_share(self.alloc, self.version, self.chunks[number])?,
-            };
+            let share = self.share_of(number, &mut slots)?;
             shares.push(share)?;
         }
         Ok(shares)
@@ -249,6 +319,7 @@ impl<R: Threads + Sync> Parser<'_, R> {
 
 /// Parses the lines of a text by at most `threads` threads, of which one is the caller's. The lists
 /// of the chunks are not joined to one: that would move each line once more.
+#[tactic(auto, using(crate::proofs::ParsedLines::no_share))]
 pub(crate) fn parse_text<R: Threads + Sync>(
     rt: &R,
     alloc: Global,

@@ -1,5 +1,5 @@
 -- The lines of a file, each parsed by itself, and then their routes.
-use Rattle.std.specs.Prelude.{ℕ, ◌+◌, List, [], ◌∷◌, ◌++◌, Some, None, map}
+use Rattle.std.specs.Prelude.{◌≡◌, ℕ, ◌+◌, List, [], ◌∷◌, ◌++◌, Option, Some, None, map, slice_index_or}
 use Rattle.std.specs.Borrow.{Bor}
 use Rattle.bs_board.specs.declared.commands.command.Command.TheVariants as command
 use Rattle.bs_board.specs.declared.plans.version.Version.{Version}
@@ -41,6 +41,14 @@ all_lines (share ∷ shares) = share ++ all_lines shares
 abbrev pub pieces_in : List (Bor (List ℕ)) → List (List ℕ)
 pieces_in [] = []
 pieces_in (chunk ∷ chunks) = pieces_of chunk.now ++ pieces_in chunks
+
+-- what the parsed chunk of that number has
+abbrev pub IsShare : Version → List (Bor (List ℕ)) → ℕ → List ParsedLine → Type 0
+IsShare version chunks number share = (none : Bor (List ℕ)) → share ≡ parsed_lines version (pieces_of (slice_index_or chunks number none).now)
+
+-- each slot that is filled has what the parsed chunk of its number has
+abbrev pub AreShares : Version → List (Bor (List ℕ)) → List (Option (List ParsedLine)) → Type 0
+AreShares version chunks slots = (number : ℕ) (share : List ParsedLine) → slice_index_or slots number None ≡ Some share → IsShare version chunks number share
 
 abbrev pub route_parsed : Capacity → OpenStayList → ParsedLine → Route
 route_parsed capacity open_stays (parsed.Command game command) = hand_route (found_in game open_stays.stays) command
