@@ -239,22 +239,32 @@ impl<R: Threads + Sync> Parser<'_, R> {
         Ok(list)
     }
 
-    /// Puts the shares that a thread has parsed into their slots.
+    /// Puts a share into its slot.
     #[tactic(auto, using(crate::proofs::ParsedLines::one_more_share))]
-    fn keep(&self, mut list: Vec<ParsedChunk>, slots: &mut Slots)
+    fn put(&self, parsed: ParsedChunk, slots: &mut Slots)
+        requires parsed { IsShare self.now.version self.now.chunks.items parsed.number parsed.share }
+        requires before { AreShares self.now.version self.now.chunks.items slots.old.shares.items }
+        ensures { AreShares self.now.version self.now.chunks.items slots.new.shares.items }
+    {
+        let ParsedChunk { number, share } = parsed;
+        slots.put(number, share);
+    }
+
+    /// Puts the shares that a thread has parsed into their slots.
+    fn put_all(&self, mut list: Vec<ParsedChunk>, slots: &mut Slots)
         requires parsed { All (λ parsed. IsShare self.now.version self.now.chunks.items parsed.number parsed.share) list.items }
         requires before { AreShares self.now.version self.now.chunks.items slots.old.shares.items }
         ensures { AreShares self.now.version self.now.chunks.items slots.new.shares.items }
     {
         for _ in 0..list.len() {
-            if let Some(ParsedChunk { number, share }) = list.pop() {
-                slots.put(number, share);
+            if let Some(parsed) = list.pop() {
+                self.put(parsed, slots);
             }
         }
     }
 
     /// Puts the shares that all threads have parsed into their slots.
-    fn keep_all(
+    fn fill(
         &self,
         mut lists: Vec<Result<Vec<ParsedChunk>, AllocError>>,
         slots: &mut Slots,
@@ -265,7 +275,7 @@ impl<R: Threads + Sync> Parser<'_, R> {
     {
         for _ in 0..lists.len() {
             if let Some(list) = lists.pop() {
-                self.keep(list?, slots);
+                self.put_all(list?, slots);
             }
         }
         Ok(())
@@ -284,7 +294,7 @@ impl<R: Threads + Sync> Parser<'_, R> {
                 ensures { IfOk result (λ list. All (λ parsed. IsShare self.entry.now.version self.entry.now.chunks.items parsed.number parsed.share) list.items) }
             { self.parse_chunks() },
         )?;
-        self.keep_all(lists, slots)?;
+        self.fill(lists, slots)?;
         Ok(())
     }
 

@@ -1,7 +1,7 @@
 -- The lists that are left, and the slots so far.
 use Rattle.std.specs.Prelude.{All, IfOk}
 use Rattle.bs_host.specs.inner.Parsed.{AreShares, IsShare}
-use Rattle.bs_host.proofs.parse.Parser.keep_all.Given as goal
+use Rattle.bs_host.proofs.parse.Parser.fill.Given as goal
 
 abbrev pub invariant-loop : goal.invariant-loop
 invariant-loop g l =

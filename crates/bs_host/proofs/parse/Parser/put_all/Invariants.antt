@@ -1,7 +1,7 @@
 -- The shares that are left, and the slots so far.
 use Rattle.std.specs.Prelude.{All}
 use Rattle.bs_host.specs.inner.Parsed.{AreShares, IsShare}
-use Rattle.bs_host.proofs.parse.Parser.keep.Given as goal
+use Rattle.bs_host.proofs.parse.Parser.put_all.Given as goal
 
 abbrev pub invariant-loop : goal.invariant-loop
 invariant-loop g l =
