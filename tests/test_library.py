@@ -178,8 +178,8 @@ class TestPage:
 
     def test_each_has_its_output(self):
         assert library_page.has_all_outputs()
-        counts = [len(library_page.blocks(it)) for it in ("c", "rust", "python")]
-        assert counts == [1, 1, 4]
+        counts = [len(library_page.blocks(it)) for it in ("c", "python")]
+        assert counts == [1, 4]
 
     def test_c(self, tmp_path):
         for number, (text, wanted) in enumerate(library_page.blocks("c")):
@@ -189,10 +189,8 @@ class TestPage:
 
     @with_cargo
     def test_rust(self):
-        for number, (text, wanted) in enumerate(library_page.blocks("rust")):
-            source = ROOT / f"bindings/rust/examples/page_{number}.rs"
-            assert source.read_text() == text, f"the page and {source} differ"
-            assert cargo_run(f"page_{number}") == wanted
+        printed = cargo_run("random_games").strip()
+        assert f"`{printed}`" in library_page.PAGE.read_text()
 
     def test_python(self, tmp_path):
         library_page.check_python(tmp_path)

@@ -33,12 +33,6 @@ def section_by_game(transcript):
     return {name: lines.decode() for name, lines in cases.sections(transcript.encode())}
 
 
-def test_the_guide_shows_live_bot():
-    text = (EXAMPLES / "live_bot.py").read_text()
-    shown = "".join(f"    {row}\n" if row else "\n" for row in text.splitlines()[2:])
-    assert shown in (ROOT / "docs/FIRST_FILE.md").read_text()
-
-
 def test_live_bot_plays_until_its_snake_is_out(program):
     words = [EXAMPLES / "live_bot.py", program]
     ran = subprocess.run(words, capture_output=True, text=True, check=True, timeout=600)

@@ -10,6 +10,6 @@ pub mod Played
 pub mod PlayedRows
 pub mod PlayedStays
 pub mod Repeated
-pub mod RunAlone
+pub mod RunInOrder
 pub mod Sizes
 pub mod Stops

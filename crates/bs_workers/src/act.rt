@@ -16,12 +16,6 @@ pub enum Act {
 
 const _: () = prove!(size_of::<Act>() == 24);
 
-/// The number of stays that the acts admit.
-pub(crate) fn count_admitted(acts: &[Act]) -> usize {
-    let is_admitted = |act: &&Act| matches!(act, Act::Admit(_));
-    acts.iter().filter(is_admitted).count()
-}
-
 /// Whether the act queues a move. Only the parts of a move can run at the same time as another job
 /// of their game.
 fn is_move(act: &Act) -> bool {

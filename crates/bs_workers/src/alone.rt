@@ -1,5 +1,6 @@
-//! A run on the calling thread alone. Nothing else has the core, so what each call does to it is
-//! known, and each command is answered where it is: nothing is compared, and the run ends.
+//! A core that one thread has by value, so that what each call does to it is known. Each command is
+//! answered where it is. A run in order makes all acts in one such core: it compares nothing, and
+//! ends.
 ghost use Rattle.std.specs.Prelude.{◌≡◌, ◌+◌, ◌≤◌, ◌∷◌, ◌++◌, [], true, false, IfErr, IfOk, OnOk, IsTrue, map};
 ghost use Rattle.std.specs.List.{filter_map};
 ghost use Rattle.bs_pool.specs.Ledger.{size};
@@ -44,9 +45,7 @@ pub(crate) struct Alone<'a, const CAP: usize, G> {
     pub(crate) core: Core<CAP>,
     /// The row in the run that the core's row 0 is. The `Gate` sees the run's rows.
     pub(crate) first: u32,
-    /// The number of the thread, which is passed to the `Gate`.
-    pub(crate) thread: usize,
-    /// The worker in the core.
+    /// The worker in the core. The `Gate` gets its number as that of the thread.
     pub(crate) worker: usize,
     pub(crate) gate: &'a G,
 }
@@ -59,7 +58,7 @@ impl<const CAP: usize, G: Gate> Alone<'_, CAP, G> {
     {
         let game = job.game.saturating_add(self.first);
         self.gate.at(
-            self.thread,
+            self.worker,
             JobName {
                 kind: job.kind,
                 game,
@@ -293,13 +292,12 @@ pub(crate) fn keeps_apart<const CAP: usize>(core: &Core<CAP>)
     let _journal = core.journal();
 }
 
-/// Like `run_any`, on the calling thread alone, which has that number. If the acts are acceptable,
-/// only a gate that may refuse makes the run `Broken`.
-pub(crate) fn run_alone<const CAP: usize, G: Gate>(
+/// Like `run_any`, on the calling thread, act by act in one core. If the acts are acceptable, only a
+/// gate that may refuse makes the run `Broken`.
+pub(crate) fn run_in_order<const CAP: usize, G: Gate>(
     alloc: Global,
     core: Core<CAP>,
     acts: &[Act],
-    thread: usize,
     gate: &G,
 ) -> Result<Core<CAP>, Run>
     requires { core
@@ -308,13 +306,11 @@ pub(crate) fn run_alone<const CAP: usize, G: Gate>(
     ensures cause { are_acceptable (capacity_of_core CAP core.entry) (opened core.entry.games.rows) acts.now ≡ true
         → IfErr result (IsCause (G.may_refuse gate.now)) }
 {
-    let worker = core.workers();
     let mut alone = Alone {
         alloc,
         core,
         first: 0,
-        thread,
-        worker,
+        worker: 0,
         gate,
     };
     alone.make_all(acts)?;

@@ -1,4 +1,4 @@
-//! Runs in which each stay is played in a core of its own. Then the stays are put together.
+//! A run: each stay is played in a core of its own, then the stays are put together.
 ghost use Rattle.std.specs.Prelude.{◌≡◌, ◌≢◌, ◌+◌, ◌≤◌, ◌++◌, ◌∷◌, [], true, IfErr, IfOk, IfSome, IsTrue, OnOk, length, map, Some};
 ghost use Rattle.bs_pool.specs.Ledger.{size};
 ghost use Rattle.bs_sched.specs.Assembly.{setting_with};
@@ -17,6 +17,7 @@ use crate::alone::keeps_apart;
 use crate::boxed::BoxedStay;
 use crate::gate::Gate;
 use crate::player::Player;
+use crate::request::Request;
 use crate::stays::Stays;
 use crate::stop::Stop;
 use bs_block::Block;
@@ -102,45 +103,40 @@ fn put_together<const CAP: usize>(
     Ok(core)
 }
 
-/// Runs acceptable acts in a newly opened core that was taken apart, on at most `threads` threads,
-/// each with a worker number of its own.
-pub(crate) fn run_apart<const CAP: usize, R: Threads + Sync, G: Gate>(
-    rt: &R,
-    alloc: Global,
-    rest: Rest<CAP>,
-    acts: &[Act],
-    threads: usize,
-    gate: &G,
-) -> Result<Core<CAP>, Stop>
-    requires workers { rest.workers ≤ MOST_WORKERS }
-    requires hosted { IsHosted (setting_with CAP rest.blocks rest.workers) rest.rows }
-    requires acceptable { are_acceptable (record { cap = CAP; blocks = rest.blocks }) (opened rest.rows) acts.now ≡ true }
-    ensures run { (old : CoreView) → rest.entry.rows ≡ old.games.rows → rest.entry.blocks ≡ size old.games.storage.pool
-        → IfOk result (λ done. IsRunOf old acts.now done) }
-    ensures cause { IfErr result (IsStopCause (G.may_refuse gate.now)) }
-{
-    let Rest {
-        rows,
-        workers,
-        blocks,
-        free,
-    } = rest;
-    let stays = Stays::of_acts(alloc, &rows, acts)?;
-    let player = Player {
-        rt,
-        alloc,
-        acts,
-        stays: &stays,
-        workers,
-        gate,
-    };
-    let table = player.play_all(threads, free)?;
-    let played = in_order(alloc, table.slots)?;
-    let rest = Rest {
-        rows,
-        workers,
-        blocks,
-        free: table.free,
-    };
-    Ok(put_together(alloc, rest, acts, stays, played)?)
+impl<R: Threads + Sync, G: Gate> Request<'_, R, G> {
+    /// Runs acceptable acts in a newly opened core that was taken apart, each thread with a worker
+    /// number of its own.
+    pub(crate) fn run_apart<const CAP: usize>(&self, rest: Rest<CAP>) -> Result<Core<CAP>, Stop>
+        requires workers { rest.workers ≤ MOST_WORKERS }
+        requires hosted { IsHosted (setting_with CAP rest.blocks rest.workers) rest.rows }
+        requires acceptable { are_acceptable (record { cap = CAP; blocks = rest.blocks }) (opened rest.rows) self.now.acts.now ≡ true }
+        ensures run { (old : CoreView) → rest.entry.rows ≡ old.games.rows → rest.entry.blocks ≡ size old.games.storage.pool
+            → IfOk result (λ done. IsRunOf old self.now.acts.now done) }
+        ensures cause { IfErr result (IsStopCause (G.may_refuse self.now.gate.now)) }
+    {
+        let Rest {
+            rows,
+            workers,
+            blocks,
+            free,
+        } = rest;
+        let stays = Stays::of_acts(self.alloc, &rows, self.acts)?;
+        let player = Player {
+            rt: self.rt,
+            alloc: self.alloc,
+            acts: self.acts,
+            stays: &stays,
+            workers,
+            gate: self.gate,
+        };
+        let table = player.play_all(self.threads, free)?;
+        let played = in_order(self.alloc, table.slots)?;
+        let rest = Rest {
+            rows,
+            workers,
+            blocks,
+            free: table.free,
+        };
+        Ok(put_together(self.alloc, rest, self.acts, stays, played)?)
+    }
 }

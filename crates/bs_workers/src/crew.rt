@@ -363,11 +363,12 @@ impl<R: Threads + Sync, G: Gate> Player<'_, R, G> {
         Ok(stays)
     }
 
-    /// Has at most that many threads play the stays of these rows, which all leave or all stay open.
+    /// Has at most that many threads play the stays of these rows, which all leave or all stay open,
+    /// but for a stay that has all moves of the run. One thread plays none of them here.
     fn play_apart<const CAP: usize>(
         &self,
         threads: usize,
-        rows: Vec<usize>,
+        rows: &[usize],
         leaving: bool,
         table: &mut Table<CAP>,
     ) -> Result<(), Stop>
@@ -375,11 +376,16 @@ impl<R: Threads + Sync, G: Gate> Player<'_, R, G> {
         ensures played { OnOk result (ArePlayedStays CAP self.now.workers self.now.acts.now self.now.stays.now table.new.slots.items) }
         ensures cause { IfErr result (IsStopCause (G.may_refuse self.now.gate.now)) }
     {
-        let threads = threads.min(rows.len());
         if threads <= 1 {
             return Ok(());
         }
-        let stays = self.run_stays(threads, rows, leaving, &mut table.free)?;
+        let mover = only_mover(self.acts, self.stays.rows.len());
+        let others = without(self.alloc, rows, mover)?;
+        let threads = threads.min(others.len());
+        if threads <= 1 {
+            return Ok(());
+        }
+        let stays = self.run_stays(threads, others, leaving, &mut table.free)?;
         self.keep(stays, table)?;
         Ok(())
     }
@@ -433,9 +439,7 @@ impl<R: Threads + Sync, G: Gate> Player<'_, R, G> {
         ensures cause { IfErr result (IsStopCause (G.may_refuse self.now.gate.now)) }
     {
         let rows = rows_of(self.alloc, self.stays.leaves.as_slice(), leaving)?;
-        let mover = only_mover(self.acts, self.stays.rows.len());
-        let others = without(self.alloc, rows.as_slice(), mover)?;
-        self.play_apart(threads, others, leaving, table)?;
+        self.play_apart(threads, rows.as_slice(), leaving, table)?;
         self.play_left(threads, rows.as_slice(), table)?;
         Ok(())
     }

@@ -14,6 +14,7 @@ use crate::alone::Alone;
 use crate::boxed::BoxedStay;
 use crate::fault::Run;
 use crate::gate::Gate;
+use crate::heap::grow_heap;
 use crate::stays::Stays;
 use crate::stop::Stop;
 use crate::together::Together;
@@ -93,7 +94,6 @@ impl<R: Threads + Sync, G: Gate> Player<'_, R, G> {
             alloc: self.alloc,
             core,
             first: 0,
-            thread: 0,
             worker: 0,
             gate: self.gate,
         };
@@ -131,7 +131,6 @@ impl<R: Threads + Sync, G: Gate> Player<'_, R, G> {
                 alloc: self.alloc,
                 core,
                 first: row,
-                thread,
                 worker: thread,
                 gate: self.gate,
             },
@@ -206,6 +205,7 @@ impl<R: Threads + Sync, G: Gate> Player<'_, R, G> {
         if row >= self.stays.rows.len() {
             return Err(Stop::Failed);
         }
+        grow_heap(self.alloc);
         let core = self.open(self.stays.rows[row].get(), blocks)?;
         let core = self.run_row(thread, threads, row, core)?;
         let stay = self.close(row, core, blocks)?;

@@ -12,11 +12,11 @@ ghost use Rattle.bs_workers.specs.declared.fault.Run.TheVariants as cause;
 ghost use Rattle.bs_workers.specs.Run.{IsRunOf};
 
 use crate::acceptable::are_acceptable;
-use crate::act::{Act, count_admitted, only_mover};
-use crate::alone::run_alone;
-use crate::apart::run_apart;
+use crate::act::Act;
+use crate::alone::run_in_order;
 use crate::fault::Run;
 use crate::gate::Gate;
+use crate::request::Request;
 use crate::stop::Stop;
 use bs_block::{MOST_CAPACITY, UNIT};
 use bs_board::{Plan, Rows, Version};
@@ -29,21 +29,6 @@ fn can_open<const CAP: usize>() -> bool
     ensures { IsTrue result → IsCapacity CAP }
 {
     CAP % UNIT == 0 && CAP >= UNIT && CAP <= MOST_CAPACITY
-}
-
-/// Whether one thread runs the acts: no other could run a job, or the run could not be repeated.
-fn is_alone<const CAP: usize>(core: &Core<CAP>, acts: &[Act], threads: usize) -> bool
-    ensures { result ≡ false → IsCapacity CAP }
-{
-    if !can_open::<CAP>() {
-        return true;
-    }
-    threads <= 1 || is_lone(core.rows(), acts)
-}
-
-/// Whether the acts are for one stay at most, and do not move it.
-fn is_lone(rows: usize, acts: &[Act]) -> bool {
-    rows <= 1 && rows.saturating_add(count_admitted(acts)) <= 1 && only_mover(acts, 1).is_none()
 }
 
 /// What a newly opened core is opened with.
@@ -91,39 +76,34 @@ fn open_again<const CAP: usize>(alloc: Global, given: Opening) -> Result<Core<CA
     }
 }
 
-/// Runs acceptable acts on several threads. If a check of the run failed, the run is repeated on
-/// one thread, which has that number.
-fn run_threads<const CAP: usize, R: Threads + Sync, G: Gate>(
-    rt: &R,
-    alloc: Global,
-    rest: Rest<CAP>,
-    acts: &[Act],
-    threads: usize,
-    gate: &G,
-) -> Result<Core<CAP>, Run>
-    requires capacity { IsCapacity CAP }
-    requires workers { rest.workers ≤ MOST_WORKERS }
-    requires hosted { IsHosted (setting_with CAP rest.blocks rest.workers) rest.rows }
-    requires acts { are_acceptable (record { cap = CAP; blocks = rest.blocks }) (opened rest.rows) acts.now ≡ true }
-    ensures run { (old : CoreView) → old ≡ opened_core CAP rest.entry.blocks rest.entry.workers rest.entry.rows → rest.entry.rows ≡ old.games.rows
-        → rest.entry.blocks ≡ size old.games.storage.pool → IfOk result (λ done. IsRunOf old acts.now done) }
-    ensures cause { (old : CoreView) → old ≡ opened_core CAP rest.entry.blocks rest.entry.workers rest.entry.rows
-        → are_acceptable (capacity_of_core CAP old) (opened old.games.rows) acts.now ≡ true → IfErr result (IsCause (G.may_refuse gate.now)) }
-{
-    let given = opening_of(alloc, &rest)?;
-    match run_apart(rt, alloc, rest, acts, threads, gate) {
-        Ok(core) => Ok(core),
-        Err(Stop::Memory) => Err(Run::Memory),
-        Err(Stop::Refused) => Err(Run::Broken),
-        Err(Stop::Failed) => {
-            let core = open_again(alloc, given)?;
-            run_alone(alloc, core, acts, threads, gate)
+impl<R: Threads + Sync, G: Gate> Request<'_, R, G> {
+    /// Runs acceptable acts in a newly opened core that was taken apart. If a check of the run
+    /// failed, the acts are run once more, in order.
+    fn run<const CAP: usize>(&self, rest: Rest<CAP>) -> Result<Core<CAP>, Run>
+        requires capacity { IsCapacity CAP }
+        requires workers { rest.workers ≤ MOST_WORKERS }
+        requires hosted { IsHosted (setting_with CAP rest.blocks rest.workers) rest.rows }
+        requires acts { are_acceptable (record { cap = CAP; blocks = rest.blocks }) (opened rest.rows) self.now.acts.now ≡ true }
+        ensures run { (old : CoreView) → old ≡ opened_core CAP rest.entry.blocks rest.entry.workers rest.entry.rows → rest.entry.rows ≡ old.games.rows
+            → rest.entry.blocks ≡ size old.games.storage.pool → IfOk result (λ done. IsRunOf old self.now.acts.now done) }
+        ensures cause { (old : CoreView) → old ≡ opened_core CAP rest.entry.blocks rest.entry.workers rest.entry.rows
+            → are_acceptable (capacity_of_core CAP old) (opened old.games.rows) self.now.acts.now ≡ true → IfErr result (IsCause (G.may_refuse self.now.gate.now)) }
+    {
+        let given = opening_of(self.alloc, &rest)?;
+        match self.run_apart(rest) {
+            Ok(core) => Ok(core),
+            Err(Stop::Memory) => Err(Run::Memory),
+            Err(Stop::Refused) => Err(Run::Broken),
+            Err(Stop::Failed) => {
+                let core = open_again(self.alloc, given)?;
+                run_in_order(self.alloc, core, self.acts, self.gate)
+            }
         }
     }
 }
 
 /// Like `run`, for any acts. An act that the core refuses for a reason other than memory stops the
-/// run with `Broken`. One thread runs acts that are not acceptable.
+/// run with `Broken`. Acts that are not acceptable are made in order by the calling thread.
 pub fn run_any<const CAP: usize, R: Threads + Sync, G: Gate>(
     rt: &R,
     alloc: Global,
@@ -138,24 +118,31 @@ pub fn run_any<const CAP: usize, R: Threads + Sync, G: Gate>(
     ensures cause { are_acceptable (capacity_of_core CAP core.entry) (opened core.entry.games.rows) acts.now ≡ true
         → IfErr result (IsCause (G.may_refuse gate.now)) }
 {
-    let threads = threads.min(core.workers());
-    if is_alone(&core, acts, threads) {
-        return run_alone(alloc, core, acts, threads, gate);
+    if !can_open::<CAP>() {
+        return run_in_order(alloc, core, acts, gate);
     }
+    let threads = threads.min(core.workers());
     let rest = core.into_rest(alloc)?;
     if !are_acceptable::<CAP>(alloc, &rest.rows, rest.blocks, acts)? {
         let given = opening_of(alloc, &rest)?;
         drop(rest);
         let core = open_again(alloc, given)?;
-        return run_alone(alloc, core, acts, threads, gate);
+        return run_in_order(alloc, core, acts, gate);
     }
-    run_threads(rt, alloc, rest, acts, threads, gate)
+    let request = Request {
+        rt,
+        alloc,
+        acts,
+        threads,
+        gate,
+    };
+    request.run(rest)
 }
 
 /// Makes the acts in order in a newly opened core, and answers all commands on at most `threads`
 /// threads, the caller's included. There are at most as many threads as workers in the core, and no
 /// more than stays, if there are several. One thread runs the commands of a single stay without
-/// moves. `gate` gets the number of the thread. Each act must be
+/// moves. `gate` gets the number of the thread, from 0. Each act must be
 /// acceptable in its place, judged by the open stays alone: a command and a leave name an open
 /// stay; for an admitted row no open stay has its name, one more stay may be open, and its blocks
 /// are free besides those reserved for the open stays.
@@ -174,10 +161,17 @@ pub fn run<const CAP: usize, R: Threads + Sync, G: Gate>(
     ensures run { IfOk result (λ done. IsRunOf core.entry acts.now done) }
     ensures cause { IfErr result (IsCause (G.may_refuse gate.now)) }
 {
-    let threads = threads.min(core.workers());
-    if is_alone(&core, acts, threads) {
-        return run_alone(alloc, core, acts, threads, gate);
+    if !can_open::<CAP>() {
+        return run_in_order(alloc, core, acts, gate);
     }
+    let threads = threads.min(core.workers());
     let rest = core.into_rest(alloc)?;
-    run_threads(rt, alloc, rest, acts, threads, gate)
+    let request = Request {
+        rt,
+        alloc,
+        acts,
+        threads,
+        gate,
+    };
+    request.run(rest)
 }

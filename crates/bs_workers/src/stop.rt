@@ -12,7 +12,7 @@ pub(crate) enum Stop {
     Memory,
     /// The `Gate` returned false.
     Refused,
-    /// A check of the run's own failed, for no known reason. The run is repeated on one thread.
+    /// A check of the run's own failed, for no known reason. The acts are run once more, in order.
     Failed,
 }
 

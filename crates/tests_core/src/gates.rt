@@ -57,6 +57,23 @@ fn a_shut_gate_breaks_the_run_at_a_leave(rt: HostRuntime) -> Result<(), Fail> {
     Ok(())
 }
 
+/// Acts of which the last is not acceptable are made in order by the calling thread: it consults
+/// the gate for each of the eight jobs of those before, and then the run is broken.
+#[test]
+fn acts_before_a_refused_one_are_made(rt: HostRuntime) -> Result<(), Fail> {
+    let mut acts = coming_and_going(rt.alloc())?;
+    acts.push(Act::Leave(7))?;
+    for threads in [1usize, 2, 4] {
+        let gate = Noting::new(rt.alloc());
+        let ran = run_with(&rt, &TWO, acts.as_slice(), (threads, threads), &gate)?;
+        same("fault", ran.err(), Some(Run::Broken))?;
+        let noted = gate.into_noted();
+        same("jobs", noted.len(), 8)?;
+        holds("the caller's", noted.iter().all(|note| note.0 == 0))?;
+    }
+    Ok(())
+}
+
 /// Records each job for which it is consulted, with the number of the thread.
 #[derive(Drop)]
 pub(crate) struct Noting {
@@ -141,7 +158,7 @@ fn one_thread_runs_a_game_without_moves(rt: HostRuntime) -> Result<(), Fail> {
         )??;
         let noted = gate.noted.into_inner();
         same("jobs", noted.len(), 2)?;
-        let is_callers = noted.iter().all(|note| note.0 == threads);
+        let is_callers = noted.iter().all(|note| note.0 == 0);
         holds("jobs of the caller", is_callers)?;
     }
     Ok(())
@@ -227,7 +244,7 @@ fn check_asked(noted: &[(usize, JobName)], count: usize) -> Result<(), Fail> {
     same("jobs", noted.len(), count)?;
     for (note, wanted) in noted.iter().zip(ASKED.iter()) {
         let (worker, job) = *note;
-        same("worker and game", (worker, job.game), (1, 0))?;
+        same("worker and game", (worker, job.game), (0, 0))?;
         same("job", (job.kind, job.part), *wanted)?;
     }
     Ok(())

@@ -21,7 +21,7 @@ fn next_of(core: &Core<CAP>, worker: usize) -> Result<Option<(u32, u8)>, Fail> {
 
 /// Answers the next command as that worker. Returns its stay and the number of its parts; `None` if
 /// the worker can answer none.
-fn answer_next(
+pub(crate) fn answer_next(
     alloc: Global,
     core: &mut Core<CAP>,
     worker: usize,

@@ -1,6 +1,6 @@
 //! Copies of a core's journal, which the core keeps.
 use crate::player::CAP;
-use crate::runs::{TWO, commands, run_games};
+use crate::runs::{TWO, commands, made_by_calls, run_games};
 use bs_samples::same;
 use bs_sched::{Core, Event};
 use bs_workers::OpenGate;
@@ -21,8 +21,10 @@ fn count_hands(events: &[Event]) -> usize {
     count
 }
 
-/// Two copies have the events of the journal, among them a hand for each command.
-fn check_copies(alloc: Global, core: Core<CAP>, commands: usize) -> Result<(), Fail> {
+/// The journal is one list or not, as told; two copies have its events, among them a hand for each
+/// command.
+fn check_copies(alloc: Global, core: Core<CAP>, commands: usize, is_one: bool) -> Result<(), Fail> {
+    same("one list", core.journal().as_slice().is_some(), is_one)?;
     let first = core.journal().to_vec(alloc)?;
     let second = core.journal().to_vec(alloc)?;
     let own = core.into_journal().into_vec(alloc)?;
@@ -35,18 +37,17 @@ fn check_copies(alloc: Global, core: Core<CAP>, commands: usize) -> Result<(), F
     Ok(())
 }
 
-/// One thread writes one list; the lists of two games that ran apart are merged.
+/// The journal of a core that is played call by call is one list; of the two games of a run the
+/// lists are merged.
 #[test]
 fn a_copy_has_the_events_of_the_journal(rt: HostRuntime) -> Result<(), Fail> {
-    let acts = commands(rt.alloc())?;
+    let alloc = rt.alloc();
+    let acts = commands(alloc)?;
+    let core = made_by_calls(alloc, &TWO, acts.as_slice())?;
+    check_copies(alloc, core, acts.len(), true)?;
     for threads in [1usize, 2] {
         let core = run_games(&rt, &TWO, acts.as_slice(), threads, &OpenGate)??;
-        same(
-            "one list",
-            core.journal().as_slice().is_some(),
-            threads == 1,
-        )?;
-        check_copies(rt.alloc(), core, acts.len())?;
+        check_copies(alloc, core, acts.len(), false)?;
     }
     Ok(())
 }

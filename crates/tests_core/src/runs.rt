@@ -1,5 +1,6 @@
-//! Runs of two games of three snakes: their acts, and their replies.
-use crate::player::CAP;
+//! Runs of two games of three snakes: their acts, and runs of any acts, also call by call.
+use crate::here::answer_next;
+use crate::player::{CAP, core_of};
 use bs_board::{Command, Direction, TurnNumber};
 use bs_fiber::SharedCommand;
 use bs_samples::{holds, new_of_three, plan_of, same, third_goes};
@@ -61,6 +62,50 @@ fn push_others(alloc: Global, acts: &mut Vec<Act>) -> Result<(), Fail> {
     push(alloc, acts, 1, Command::Show)?;
     push(alloc, acts, 0, Command::Bad)?;
     Ok(())
+}
+
+/// Answers the commands that wait in the core, at most that many, one after the other.
+fn answer_waiting(alloc: Global, core: &mut Core<CAP>, most: usize) -> Result<(), Fail> {
+    for _ in 0..most {
+        if answer_next(alloc, core, 0)?.is_none() {
+            break;
+        }
+    }
+    holds("quiet", core.is_quiet())
+}
+
+/// Makes the act by its call. Before a stay leaves, all commands are answered, at most that many.
+fn make(alloc: Global, core: &mut Core<CAP>, act: &Act, most: usize) -> Result<(), Fail> {
+    match act {
+        Act::Hand(stay, command) => {
+            holds("a stay", *stay < core.rows())?;
+            holds("an open stay", core.is_open(*stay))?;
+            Ok(core.hand(*stay, command.share()?)?)
+        }
+        Act::Admit(row) => {
+            let admitted = core.admit(alloc, row.get().copy(alloc)?);
+            holds("admitted", admitted.is_ok())
+        }
+        Act::Leave(stay) => {
+            answer_waiting(alloc, core, most)?;
+            holds("a stay", *stay < core.rows())?;
+            holds("left", core.leave(alloc, *stay).is_ok())
+        }
+    }
+}
+
+/// Makes the acts in a core of those games with six blocks for each, call by call, with no run.
+pub(crate) fn made_by_calls(
+    alloc: Global,
+    games: &[(&str, u32)],
+    acts: &[Act],
+) -> Result<Core<CAP>, Fail> {
+    let mut core = core_of(alloc, games, games.len().saturating_mul(6))?;
+    for act in acts {
+        make(alloc, &mut core, act, acts.len())?;
+    }
+    answer_waiting(alloc, &mut core, acts.len())?;
+    Ok(core)
 }
 
 /// Runs the acts in a core of those games with six blocks for each, on that many threads.

@@ -1,8 +1,8 @@
-//! Stays that come and go, played by several threads.
+//! Stays that come and go, played on one thread and several.
 use crate::coming::push_admit;
 use crate::gates::{Noting, check_noted};
 use crate::player::CAP;
-use crate::runs::{push, run_games};
+use crate::runs::{made_by_calls, push, run_games};
 use crate::threads::{check_records, check_replies};
 use bs_board::{Command, Direction};
 use bs_fiber::JobName;
@@ -67,19 +67,19 @@ fn check_stay(alloc: Global, one: &Core<CAP>, other: &Core<CAP>, stay: usize) ->
     check_records(one, other, stay)
 }
 
-/// Stays that come and go have the replies, boards and records of a run on one thread, whatever the
-/// number of threads, and as many blocks are free.
+/// Stays that come and go have the replies, boards and records of a core that is played call by
+/// call, whatever the number of threads, and as many blocks are free.
 #[test]
-fn several_threads_play_stays_as_one_does(rt: HostRuntime) -> Result<(), Fail> {
+fn any_number_of_threads_plays_the_same_stays(rt: HostRuntime) -> Result<(), Fail> {
     let acts = rounds(rt.alloc())?;
-    let alone = run_games(&rt, &FOUR, acts.as_slice(), 1, &OpenGate)??;
-    same("stays", alone.rows(), STAYS)?;
-    for threads in [2usize, 3, 4, 7] {
+    let wanted = made_by_calls(rt.alloc(), &FOUR, acts.as_slice())?;
+    same("stays", wanted.rows(), STAYS)?;
+    for threads in [1usize, 2, 3, 4, 7] {
         let core = run_games(&rt, &FOUR, acts.as_slice(), threads, &OpenGate)??;
         same("stays", core.rows(), STAYS)?;
-        same("free", core.counts().free, alone.counts().free)?;
+        same("free", core.counts().free, wanted.counts().free)?;
         for stay in 0..STAYS {
-            check_stay(rt.alloc(), &core, &alone, stay)?;
+            check_stay(rt.alloc(), &core, &wanted, stay)?;
         }
     }
     Ok(())
@@ -95,28 +95,30 @@ fn act_of(event: &Event) -> Option<(u8, u32)> {
     }
 }
 
-/// The acts of a run on that many threads, in the order of its journal, as text.
-fn acts_by<R: Threads + Sync + AllocGlobal>(rt: &R, threads: usize) -> Result<String, Fail> {
-    let acts = rounds(rt.alloc())?;
-    let core = run_games(rt, &FOUR, acts.as_slice(), threads, &OpenGate)??;
-    let events = core.into_journal().into_vec(rt.alloc())?;
-    let mut seen = Vec::new(rt.alloc());
+/// The acts that the core's journal makes, in its order, as text. There are that many.
+fn acts_in(alloc: Global, core: Core<CAP>, acts: usize) -> Result<String, Fail> {
+    let events = core.into_journal().into_vec(alloc)?;
+    let mut seen = Vec::new(alloc);
     for event in events.iter() {
         if let Some(act) = act_of(event) {
             seen.push(act)?;
         }
     }
-    same("acts", seen.len(), acts.len())?;
-    Ok(format!(in rt.alloc(); "{seen:?}")?)
+    same("acts", seen.len(), acts)?;
+    Ok(format!(in alloc; "{seen:?}")?)
 }
 
 /// The journal has the acts in their order, whatever the number of threads.
 #[test]
 fn the_journal_of_stays_has_the_acts_in_order(rt: HostRuntime) -> Result<(), Fail> {
-    let alone = acts_by(&rt, 1)?;
-    for threads in [2usize, 4] {
-        let others = acts_by(&rt, threads)?;
-        same("acts", others.as_str(), alone.as_str())?;
+    let alloc = rt.alloc();
+    let acts = rounds(alloc)?;
+    let wanted = made_by_calls(alloc, &FOUR, acts.as_slice())?;
+    let wanted = acts_in(alloc, wanted, acts.len())?;
+    for threads in [1usize, 2, 4] {
+        let core = run_games(&rt, &FOUR, acts.as_slice(), threads, &OpenGate)??;
+        let others = acts_in(alloc, core, acts.len())?;
+        same("acts", others.as_str(), wanted.as_str())?;
     }
     Ok(())
 }

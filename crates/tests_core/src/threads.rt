@@ -1,6 +1,7 @@
-//! Runs on several threads: the replies are the same for each number of threads.
+//! Runs on one thread and several: each has the replies, the records and the jobs of a core that is
+//! played call by call.
 use crate::player::CAP;
-use crate::runs::{TWO, commands, push, run_games, run_with};
+use crate::runs::{TWO, commands, made_by_calls, push, run_games, run_with};
 use bs_fiber::JobName;
 use bs_samples::{holds, new_of_three, same};
 use bs_sched::{Core, Event};
@@ -28,12 +29,18 @@ fn replies_by<R: Threads + Sync + AllocGlobal>(rt: &R, threads: usize) -> Result
     replies(rt.alloc(), &core, 0)
 }
 
+fn replies_by_calls(alloc: Global) -> Result<String, Fail> {
+    let acts = commands(alloc)?;
+    let core = made_by_calls(alloc, &TWO, acts.as_slice())?;
+    replies(alloc, &core, 0)
+}
+
 #[test]
 fn any_number_of_threads_gives_the_same_replies(rt: HostRuntime) -> Result<(), Fail> {
-    let alone = replies_by(&rt, 1)?;
-    for threads in [0usize, 2, 4] {
+    let wanted = replies_by_calls(rt.alloc())?;
+    for threads in [0usize, 1, 2, 4] {
         let others = replies_by(&rt, threads)?;
-        same("replies", others.as_str(), alone.as_str())?;
+        same("replies", others.as_str(), wanted.as_str())?;
     }
     Ok(())
 }
@@ -71,10 +78,10 @@ fn commands_of_pairs(alloc: Global) -> Result<Vec<Act>, Fail> {
 }
 
 /// Checks that each pair of sixteen games has these replies.
-fn check_pairs(alloc: Global, core: &Core<CAP>, alone: &str) -> Result<(), Fail> {
+fn check_pairs(alloc: Global, core: &Core<CAP>, wanted: &str) -> Result<(), Fail> {
     for pair in 0..8usize {
         let others = replies(alloc, core, 2 * pair)?;
-        same("replies", others.as_str(), alone)?;
+        same("replies", others.as_str(), wanted)?;
     }
     Ok(())
 }
@@ -83,7 +90,7 @@ fn check_pairs(alloc: Global, core: &Core<CAP>, alone: &str) -> Result<(), Fail>
 /// the number of threads, or no multiple of it.
 #[test]
 fn any_number_of_workers_gives_the_same_replies(rt: HostRuntime) -> Result<(), Fail> {
-    let alone = replies_by(&rt, 1)?;
+    let wanted = replies_by_calls(rt.alloc())?;
     let acts = commands_of_pairs(rt.alloc())?;
     for (threads, workers) in [
         (0usize, 3usize),
@@ -103,7 +110,7 @@ fn any_number_of_workers_gives_the_same_replies(rt: HostRuntime) -> Result<(), F
             (threads, workers),
             &OpenGate,
         )?;
-        check_pairs(rt.alloc(), &ran?, alone.as_str())?;
+        check_pairs(rt.alloc(), &ran?, wanted.as_str())?;
     }
     Ok(())
 }
@@ -138,18 +145,18 @@ pub(crate) fn check_records(one: &Core<CAP>, other: &Core<CAP>, game: usize) -> 
     Ok(())
 }
 
-/// Row by row, a run on several threads has the replies and the records of the run on one thread,
-/// and as many blocks are free.
+/// Row by row, a run has the replies and the records of a core that is played call by call, and as
+/// many blocks are free, whatever the number of threads.
 #[test]
-fn several_threads_keep_the_same_records(rt: HostRuntime) -> Result<(), Fail> {
+fn any_number_of_threads_keeps_the_same_records(rt: HostRuntime) -> Result<(), Fail> {
     let acts = commands_of_pairs(rt.alloc())?;
-    let alone = run_games(&rt, &SIXTEEN, acts.as_slice(), 1, &OpenGate)??;
-    for threads in [2usize, 3, 4, 7] {
+    let wanted = made_by_calls(rt.alloc(), &SIXTEEN, acts.as_slice())?;
+    for threads in [1usize, 2, 3, 4, 7] {
         let core = run_games(&rt, &SIXTEEN, acts.as_slice(), threads, &OpenGate)??;
-        same("free", core.counts().free, alone.counts().free)?;
+        same("free", core.counts().free, wanted.counts().free)?;
         for game in 0..16usize {
-            check_replies(rt.alloc(), &core, &alone, game)?;
-            check_records(&core, &alone, game)?;
+            check_replies(rt.alloc(), &core, &wanted, game)?;
+            check_records(&core, &wanted, game)?;
         }
     }
     Ok(())
@@ -200,19 +207,19 @@ fn check_jobs(alloc: Global, one: &[Event], other: &[Event]) -> Result<(), Fail>
     Ok(())
 }
 
-/// The journal of several threads has all commands in the order of the acts, and then row by row
-/// the jobs that one thread does.
+/// The journal of a run has all commands in the order of the acts, and then row by row the jobs of
+/// a core that is played call by call, whatever the number of threads.
 #[test]
-fn several_threads_write_commands_and_then_jobs(rt: HostRuntime) -> Result<(), Fail> {
+fn a_run_writes_commands_and_then_jobs(rt: HostRuntime) -> Result<(), Fail> {
     let acts = commands_of_pairs(rt.alloc())?;
-    let alone = run_games(&rt, &SIXTEEN, acts.as_slice(), 1, &OpenGate)??;
-    let alone = alone.into_journal().into_vec(rt.alloc())?;
-    for threads in [2usize, 3, 4, 7] {
+    let wanted = made_by_calls(rt.alloc(), &SIXTEEN, acts.as_slice())?;
+    let wanted = wanted.into_journal().into_vec(rt.alloc())?;
+    for threads in [1usize, 2, 3, 4, 7] {
         let core = run_games(&rt, &SIXTEEN, acts.as_slice(), threads, &OpenGate)??;
         let events = core.into_journal().into_vec(rt.alloc())?;
         check_journal(events.as_slice(), acts.as_slice())?;
         check_order(events.as_slice(), acts.len())?;
-        check_jobs(rt.alloc(), events.as_slice(), alone.as_slice())?;
+        check_jobs(rt.alloc(), events.as_slice(), wanted.as_slice())?;
     }
     Ok(())
 }

@@ -5,7 +5,7 @@ use Rattle.bs_sched.specs.Journal.{setting_in}
 use Rattle.bs_workers.specs.Acceptable.{MayBeMade}
 use Rattle.bs_workers.specs.Causes.{IsCause}
 use Rattle.bs_workers.proofs.AcceptableActs.{next_still}
-use Rattle.bs_workers.proofs.RunAlone.{leave_enabled}
+use Rattle.bs_workers.proofs.RunInOrder.{leave_enabled}
 use Rattle.bs_workers.proofs.alone.Alone.make.Goals as goal
 
 pub returns-in_ok-answer_all-in-Leave-clause-cause : goal.returns-in_ok-answer_all-in-Leave-clause-cause

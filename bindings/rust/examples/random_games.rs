@@ -1,3 +1,5 @@
+//! Plays 256 games of random moves, and begins each anew that has ended.
+
 use arena_rules::{start_games, step, Cell, Fault, Games, Settings, SmallGame, Starts};
 
 /// A generator of 32-bit words: xorshift.

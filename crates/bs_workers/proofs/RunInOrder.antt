@@ -1,4 +1,4 @@
--- The run of a thread that has the core alone, from the core as it was opened to the idle one.
+-- A run in order, from the core as it was opened to the idle one.
 use Rattle.std.proofs.Common.{◌≡◌, ℕ, true, List, ◌++◌, sym, ap, subst}
 use Rattle.bs_board.specs.plans.Plan.{GameRow}
 use Rattle.bs_sched.specs.declared.event.Event.{Event}

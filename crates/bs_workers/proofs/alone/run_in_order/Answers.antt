@@ -1,8 +1,8 @@
 -- All acts are made from the core as it was opened, and no command waits.
 use Rattle.std.proofs.lemmas.Result.{err_from_is_err_and}
 use Rattle.bs_pool.specs.Ledger.{size}
-use Rattle.bs_workers.proofs.RunAlone.{calm_opened, next_opened, run_done}
-use Rattle.bs_workers.proofs.alone.run_alone.Goals as goal
+use Rattle.bs_workers.proofs.RunInOrder.{calm_opened, next_opened, run_done}
+use Rattle.bs_workers.proofs.alone.run_in_order.Goals as goal
 
 pub returns-clause-run : goal.returns-clause-run
 returns-clause-run g c =

@@ -1,0 +1,14 @@
+//! What a run is asked to do, and with what.
+use crate::act::Act;
+use std::alloc::Global;
+
+/// The acts of a run, with all that stays the same while it goes on.
+#[derive(Drop)]
+pub(crate) struct Request<'a, R, G> {
+    pub(crate) rt: &'a R,
+    pub(crate) alloc: Global,
+    pub(crate) acts: &'a [Act],
+    /// How many threads there may be, the caller's included.
+    pub(crate) threads: usize,
+    pub(crate) gate: &'a G,
+}
