@@ -1,4 +1,4 @@
-//! The lines of a file, parsed by several threads: each parses one share of the text.
+//! The lines of a file, parsed by several threads: they take chunks of the text by turns.
 ghost use Rattle.std.specs.Prelude.{◌≡◌, ◌<◌, All, IfOk, IfSome, None, OnOk, Some, length, slice_index_or, slice_set};
 ghost use Rattle.bs_json.specs.Line.{line_of};
 ghost use Rattle.bs_host.specs.File.{pieces_of};
