@@ -1,9 +1,13 @@
 -- Parsed lines, and their routes.
-use Rattle.std.proofs.Common.{◌≡◌, ℕ, ◌+◌, ◌<◌, List, [], ◌∷◌, ◌++◌, Option, Some, None, length, refl, sym, ap, subst, ◌∙◌, arith, append-nil, append_assoc}
-use Rattle.std.specs.Prelude.{option_map, option_to_list, unwrap_or, IfSome}
+use Rattle.std.proofs.Common.{◌≡◌, ℕ, ◌+◌, ◌<◌, List, [], ◌∷◌, ◌++◌, Option, Some, None, drop, get_or, length, refl, sym, ap, subst, ◌∙◌, arith, append-nil, append_assoc, inl, inr}
+use Rattle.std.specs.Prelude.{All, option_map, option_to_list, slice_set, unwrap_or, IfSome}
 use Rattle.std.specs.Borrow.{Bor}
 use Rattle.std.specs.List.{cons_option}
-use Rattle.std.proofs.lemmas.List.{map-append}
+use Rattle.std.proofs.Math.ListN.{get_or-eq_default}
+use Rattle.std.proofs.lemmas.Bool.{cases_lt}
+use Rattle.std.proofs.lemmas.Bool.Decides.{eqb_tells}
+use Rattle.std.proofs.lemmas.Grind.{get_or-set_at}
+use Rattle.std.proofs.lemmas.List.{drop_more, get_or-set_other, length-set, map-append}
 use Rattle.bs_board.specs.declared.plans.plan.Plan.{Plan}
 use Rattle.bs_board.specs.declared.plans.version.Version.{Version}
 use Rattle.bs_board.specs.plans.Plan.{GameRow}
@@ -17,28 +21,108 @@ use Rattle.bs_host.specs.declared.route.Requests.{Requests}
 use Rattle.bs_host.specs.declared.route.Route.{Route}
 use Rattle.bs_registry.specs.OpenStays.{OpenStayList, open_stays_of}
 use Rattle.bs_host.specs.inner.OpenStays.{open_stays_then, route_by, routes_by_open_stays}
-use Rattle.bs_host.specs.inner.Parsed.{all_lines, parsed_line, parsed_lines, route_parsed, routes_parsed}
+use Rattle.bs_host.specs.File.{pieces_of}
+use Rattle.bs_host.specs.inner.Parsed.{AreShares, IsShare, all_lines, parsed_line, parsed_lines, pieces_in, route_parsed, routes_parsed}
 use Rattle.bs_host.specs.Routing.{act_in, acts_in, numbered_stray, routes_from, strays_in}
 use Rattle.bs_host.specs.inner.Routing.{AreLeft, IsRouted}
 use Rattle.bs_host.proofs.OpenStayRoutes.{open_stays_law}
 
 -- parsing
 
-pub only_share : (share : List ParsedLine) (shares : List (List ParsedLine)) → shares ≡ share ∷ [] → all_lines shares ≡ share
-only_share share shares is = ap all_lines is ∙ append-nil share
+pieces_more : (chunks : List (Bor (List ℕ))) (chunk : Bor (List ℕ)) → pieces_in (chunks ++ chunk ∷ []) ≡ pieces_in chunks ++ pieces_of chunk.now
+pieces_more [] chunk = append-nil (pieces_of chunk.now)
+pieces_more (first ∷ chunks) chunk =
+    ap (λ pieces. pieces_of first.now ++ pieces) (pieces_more chunks chunk) ∙ sym (append_assoc (pieces_of first.now) (pieces_in chunks) (pieces_of chunk.now))
 
-lines_together : (shares more : List (List ParsedLine)) → all_lines (shares ++ more) ≡ all_lines shares ++ all_lines more
-lines_together [] more = refl
-lines_together (share ∷ shares) more =
-    ap (λ lines. share ++ lines) (lines_together shares more) ∙ sym (append_assoc share (all_lines shares) (all_lines more))
+-- one more chunk of the text, then the rest of it
+pub one_more_chunk : (old new : List (Bor (List ℕ))) (chunk : Bor (List ℕ)) (left rest all : List (List ℕ)) → new ≡ old ++ chunk ∷ []
+    → left ≡ pieces_of chunk.now ++ rest → pieces_in old ++ left ≡ all → pieces_in new ++ rest ≡ all
+one_more_chunk old new chunk left rest all pushed cut before =
+    ap (λ chunks. pieces_in chunks ++ rest) pushed ∙ ap (λ pieces. pieces ++ rest) (pieces_more old chunk)
+    ∙ append_assoc (pieces_in old) (pieces_of chunk.now) rest ∙ ap (λ pieces. pieces_in old ++ pieces) (sym cut) ∙ before
 
-pub parsed_together : (version : Version) (all front back : List (List ℕ)) (shares more both : List (List ParsedLine)) → all ≡ front ++ back
-    → all_lines shares ≡ parsed_lines version front → all_lines more ≡ parsed_lines version back → both ≡ shares ++ more
-    → all_lines both ≡ parsed_lines version all
-parsed_together version all front back shares more both is one two joined =
-    ap all_lines joined ∙ lines_together shares more
-    ∙ ap (λ lines. lines ++ all_lines more) one ∙ ap (λ more. parsed_lines version front ++ more) two
-    ∙ sym (map-append (λ piece. parsed_line (line_of version piece)) front back) ∙ ap (parsed_lines version) (sym is)
+-- the rest is the last chunk
+pub last_chunk : (old new : List (Bor (List ℕ))) (chunk : Bor (List ℕ)) (all : List (List ℕ)) → new ≡ old ++ chunk ∷ []
+    → pieces_in old ++ pieces_of chunk.now ≡ all → pieces_in new ≡ all
+last_chunk old new chunk all pushed before = ap pieces_in pushed ∙ pieces_more old chunk ∙ before
+
+some_chunk : (chunks : List (Bor (List ℕ))) (number : ℕ) → number < length chunks → Bor (List ℕ)
+some_chunk [] number within = absurd (omega (arith, within))
+some_chunk (chunk ∷ chunks) number within = chunk
+
+lines_more : (shares : List (List ParsedLine)) (share : List ParsedLine) → all_lines (shares ++ share ∷ []) ≡ all_lines shares ++ share
+lines_more [] share = append-nil share
+lines_more (first ∷ shares) share =
+    ap (λ lines. first ++ lines) (lines_more shares share) ∙ sym (append_assoc first (all_lines shares) share)
+
+module _ (version : Version) (chunks : List (Bor (List ℕ))) where
+  -- one more slot is filled
+  pub one_more_share : (old new : List (Option (List ParsedLine))) (number : ℕ) (share : List ParsedLine) → new ≡ slice_set old number (Some share)
+      → IsShare version chunks number share → AreShares version chunks old → AreShares version chunks new
+  one_more_share old new number share is parsed before =
+      λ at found there.
+      elim (eqb_tells at number) [
+        | inl on ↦
+            let same : at ≡ number = on.1 in
+            elim (cases_lt number (length old)) [
+              | inl inside ↦
+                  let gets : Some share ≡ Some found
+                  = sym (get_or-set_at old number at (Some share) None same inside) ∙ ap (λ slots. get_or slots at None) (sym is) ∙ there in
+                  let share_same : share ≡ found = cc in
+                  subst (λ n. IsShare version chunks n found) (sym same) (subst (λ s. IsShare version chunks number s) share_same parsed)
+              | inr past ↦
+                  let many : length new ≡ length old = ap length is ∙ length-set old number (Some share) in
+                  let wrong : None ≡ Some found = sym (get_or-eq_default new None (omega (arith, past, many, same))) ∙ there in
+                  absurd cc
+            ]
+        | inr off ↦ before at found (sym (get_or-set_other old number at (Some share) None off.1) ∙ ap (λ slots. get_or slots at None) (sym is) ∙ there)
+      ]
+
+  -- one slot was emptied
+  pub one_share_less : (old new : List (Option (List ParsedLine))) (number : ℕ) → new ≡ slice_set old number None
+      → AreShares version chunks old → AreShares version chunks new
+  one_share_less old new number is before =
+      λ at found there.
+      elim (eqb_tells at number) [
+        | inl on ↦
+            let same : at ≡ number = on.1 in
+            elim (cases_lt number (length old)) [
+              | inl inside ↦
+                  let wrong : None ≡ Some found
+                  = sym (get_or-set_at old number at None None same inside) ∙ ap (λ slots. get_or slots at None) (sym is) ∙ there in
+                  absurd cc
+              | inr past ↦
+                  let many : length new ≡ length old = ap length is ∙ length-set old number None in
+                  let wrong : None ≡ Some found = sym (get_or-eq_default new None (omega (arith, past, many, same))) ∙ there in
+                  absurd cc
+            ]
+        | inr off ↦ before at found (sym (get_or-set_other old number at None None off.1) ∙ ap (λ slots. get_or slots at None) (sym is) ∙ there)
+      ]
+
+  -- no slot is filled
+  pub no_share : (slots : List (Option (List ParsedLine))) → All (λ slot. slot ≡ None) slots → AreShares version chunks slots
+  no_share slots none =
+      λ number share there.
+      let wrong : None ≡ Some share =
+      elim (cases_lt number (length slots)) [
+        | inl less ↦ sym (none number None less) ∙ there
+        | inr past ↦ sym (get_or-eq_default slots None (omega (arith, past))) ∙ there
+      ] in
+      absurd cc
+
+  -- one more share, then the remaining chunks
+  pub next_share : (number : ℕ) (old new : List (List ParsedLine)) (share : List ParsedLine) → number < length chunks → new ≡ old ++ share ∷ []
+      → IsShare version chunks number share → all_lines old ++ parsed_lines version (pieces_in (drop number chunks)) ≡ parsed_lines version (pieces_in chunks)
+      → all_lines new ++ parsed_lines version (pieces_in (drop (number + 1) chunks)) ≡ parsed_lines version (pieces_in chunks)
+  next_share number old new share within pushed is before =
+      let none : Bor (List ℕ) = some_chunk chunks number within in
+      let chunk = get_or chunks number none in
+      let rest = pieces_in (drop (number + 1) chunks) in
+      ap (λ shares. all_lines shares ++ parsed_lines version rest) pushed ∙ ap (λ lines. lines ++ parsed_lines version rest) (lines_more old share)
+      ∙ append_assoc (all_lines old) share (parsed_lines version rest)
+      ∙ ap (λ lines. all_lines old ++ (lines ++ parsed_lines version rest)) (is none)
+      ∙ ap (λ lines. all_lines old ++ lines) (sym (map-append (λ piece. parsed_line (line_of version piece)) (pieces_of chunk.now) rest))
+      ∙ ap (λ some. all_lines old ++ parsed_lines version (pieces_in some)) (sym (drop_more chunks number none within)) ∙ before
 
 -- one more line, then the remaining ones
 pub one_more_parsed : (version : Version) (left : List (List ℕ)) (piece : List ℕ) (rest : List (List ℕ)) (old new total : List ParsedLine) (parsed : ParsedLine)

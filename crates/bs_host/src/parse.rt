@@ -1,9 +1,8 @@
-//! The lines of a file, parsed by several threads: each parses one share of the text.
-ghost use Rattle.std.specs.Prelude.{◌≡◌, ◌++◌, ◌∷◌, [], ◌+◌, ◌<◌, ◌≤◌, ℕ, length, IfOk, IfSome};
-ghost use Rattle.std.specs.Thread.{IsSync};
+//! The lines of a file, parsed by several threads: they take chunks of the text by turns.
+ghost use Rattle.std.specs.Prelude.{◌≡◌, ◌<◌, All, IfOk, IfSome, None, OnOk, Some, length, slice_index_or, slice_set};
 ghost use Rattle.bs_json.specs.Line.{line_of};
 ghost use Rattle.bs_host.specs.File.{pieces_of};
-ghost use Rattle.bs_host.specs.inner.Parsed.{all_lines, parsed_line, parsed_lines};
+ghost use Rattle.bs_host.specs.inner.Parsed.{AreShares, IsShare, all_lines, parsed_line, parsed_lines, pieces_in};
 
 use crate::lines::{split_from, split_line};
 use bs_board::{Command, Id, Version};
@@ -12,7 +11,8 @@ use bs_json::{Line, Stray, read_line};
 use bs_sched::SharedRow;
 use std::alloc::{AllocError, Global};
 use std::marker::Model;
-use std::thread::{Threads, join};
+use std::sync::atomic::{AtomicU64, Ordering};
+use std::thread::{Threads, map_indices};
 
 /// A parsed line of a file. It depends on the line's bytes and on the plan's version alone.
 #[derive(Debug, Drop)]
@@ -74,7 +74,7 @@ pub(crate) fn parse_line(
     }
 }
 
-/// The lines that one thread parsed, in order.
+/// The parsed lines of a chunk of a text, in order.
 #[derive(Debug, Drop)]
 pub struct Share {
     pub(crate) lines: Vec<ParsedLine>,
@@ -111,35 +111,225 @@ fn parse_share(alloc: Global, version: Version, text: &[u8]) -> Result<Share, Al
     Ok(Share { lines })
 }
 
-/// The list of that share alone.
-fn only(alloc: Global, share: Share) -> Result<Vec<Share>, AllocError>
-    ensures { IfOk result (λ shares. shares.items ≡ share ∷ []) }
-{
-    let mut shares = Vec::with_capacity(alloc, 1)?;
-    shares.push(share)?;
-    Ok(shares)
-}
-
-/// The least size of a share, in bytes: parsing it takes a few times as long as starting a thread.
+/// The least size of a chunk, in bytes: parsing it takes a few times as long as starting a thread.
 const FEWEST_BYTES: usize = 32_768;
 
-/// Splits a text in two near its middle, at a line feed; each half is for half of the threads.
-/// `None` if one thread is to parse all of it.
-fn split_shares(text: &[u8], threads: usize) -> Option<(&[u8], &[u8])>
-    ensures pieces { IfSome result (λ cut. pieces_of text.now ≡ pieces_of cut.0.now ++ pieces_of cut.1.now) }
-    ensures shorter { IfSome result (λ cut. length cut.0.now < length text.now) }
-    ensures less { IfSome result (λ cut. length cut.1.now < length text.now) }
-{
-    if threads <= 1 || text.len() / threads < FEWEST_BYTES {
-        return None;
+/// The number of chunks for each thread. A thread that starts late or has longer lines leaves some
+/// of them to the others.
+const CHUNKS_PER_THREAD: usize = 16;
+
+/// The size of the chunks in which at most that many threads parse a text of that length.
+fn chunk_size(len: usize, threads: usize) -> usize {
+    if threads <= 1 {
+        return len;
     }
-    split_from(text, text.len() / 2)
+    (len / threads.saturating_mul(CHUNKS_PER_THREAD)).max(FEWEST_BYTES)
+}
+
+/// Cuts a text at line feeds into chunks of at least `size` bytes; the last one may be shorter.
+#[tactic(auto, using(crate::proofs::ParsedLines::one_more_chunk, crate::proofs::ParsedLines::last_chunk))]
+fn cut_text(alloc: Global, text: &[u8], size: usize) -> Result<Vec<&[u8]>, AllocError>
+    ensures { IfOk result (λ chunks. pieces_in chunks.items ≡ pieces_of text.now) }
+{
+    let mut chunks = Vec::new(alloc);
+    let mut left = text;
+    while left.len() / 2 >= size {
+        let Some((chunk, more)) = split_from(left, size) else {
+            break;
+        };
+        chunks.push(chunk)?;
+        left = more;
+    }
+    chunks.push(left)?;
+    Ok(chunks)
+}
+
+/// A chunk that was parsed.
+#[derive(Drop)]
+struct ParsedChunk {
+    /// The chunk's place in the text, from 0.
+    number: usize,
+    share: Share,
+}
+
+/// The share of each chunk, once it was parsed.
+#[derive(Drop)]
+struct Slots {
+    shares: Vec<Option<Share>>,
+}
+
+impl Slots {
+    /// Slots of which none is filled.
+    fn new(alloc: Global, many: usize) -> Result<Self, AllocError>
+        ensures { IfOk result (λ slots. All (λ slot. slot ≡ None) slots.shares.items) }
+    {
+        let mut shares = Vec::with_capacity(alloc, many)?;
+        for _ in 0..many {
+            shares.push(None)?;
+        }
+        Ok(Slots { shares })
+    }
+
+    /// Fills the slot of that number, if there is one.
+    fn put(&mut self, number: usize, share: Share)
+        ensures { self.new.shares.items ≡ slice_set self.old.shares.items number (Some share) }
+    {
+        if number < self.shares.len() {
+            self.shares[number] = Some(share);
+        }
+    }
+
+    /// Empties the slot of that number, and returns what was in it.
+    fn take(&mut self, number: usize) -> Option<Share>
+        ensures taken { result ≡ slice_index_or self.old.shares.items number None }
+        ensures left { self.new.shares.items ≡ slice_set self.old.shares.items number None }
+    {
+        if number < self.shares.len() {
+            self.shares[number].take()
+        } else {
+            None
+        }
+    }
+}
+
+/// Threads that parse the chunks of a text, one after the other.
+#[derive(Drop)]
+struct Parser<'a, R> {
+    rt: &'a R,
+    alloc: Global,
+    version: Version,
+    chunks: Vec<&'a [u8]>,
+    /// The number of the first chunk that no thread has asked for.
+    next: AtomicU64,
+}
+
+impl<R: Threads + Sync> Parser<'_, R> {
+    /// The number of the next chunk. Each is returned once.
+    fn next(&self) -> Option<usize>
+        ensures { IfSome result (λ number. number < length self.now.chunks.items) }
+    {
+        let number = self.next.fetch_add(1, Ordering::SeqCst) as usize;
+        if number < self.chunks.len() {
+            Some(number)
+        } else {
+            None
+        }
+    }
+
+    /// Parses the chunk of that number.
+    fn parse_chunk(&self, number: usize) -> Result<Share, AllocError>
+        requires { number < length self.now.chunks.items }
+        ensures { IfOk result (IsShare self.now.version self.now.chunks.items number) }
+    {
+        parse_share(self.alloc, self.version, self.chunks[number])
+    }
+
+    /// Parses chunks until none is left.
+    fn parse_chunks(&self) -> Result<Vec<ParsedChunk>, AllocError>
+        ensures { IfOk result (λ list. All (λ parsed. IsShare self.now.version self.now.chunks.items parsed.number parsed.share) list.items) }
+    {
+        let mut list = Vec::new(self.alloc);
+        for _ in 0..self.chunks.len() {
+            let Some(number) = self.next() else {
+                break;
+            };
+            let share = self.parse_chunk(number)?;
+            list.push(ParsedChunk { number, share })?;
+        }
+        Ok(list)
+    }
+
+    /// Puts a share into its slot.
+    #[tactic(auto, using(crate::proofs::ParsedLines::one_more_share))]
+    fn put(&self, parsed: ParsedChunk, slots: &mut Slots)
+        requires parsed { IsShare self.now.version self.now.chunks.items parsed.number parsed.share }
+        requires before { AreShares self.now.version self.now.chunks.items slots.old.shares.items }
+        ensures { AreShares self.now.version self.now.chunks.items slots.new.shares.items }
+    {
+        let ParsedChunk { number, share } = parsed;
+        slots.put(number, share);
+    }
+
+    /// Puts the shares that a thread has parsed into their slots.
+    fn put_all(&self, mut list: Vec<ParsedChunk>, slots: &mut Slots)
+        requires parsed { All (λ parsed. IsShare self.now.version self.now.chunks.items parsed.number parsed.share) list.items }
+        requires before { AreShares self.now.version self.now.chunks.items slots.old.shares.items }
+        ensures { AreShares self.now.version self.now.chunks.items slots.new.shares.items }
+    {
+        for _ in 0..list.len() {
+            if let Some(parsed) = list.pop() {
+                self.put(parsed, slots);
+            }
+        }
+    }
+
+    /// Puts the shares that all threads have parsed into their slots.
+    fn fill(
+        &self,
+        mut lists: Vec<Result<Vec<ParsedChunk>, AllocError>>,
+        slots: &mut Slots,
+    ) -> Result<(), AllocError>
+        requires parsed { All (λ some. IfOk some (λ list. All (λ parsed. IsShare self.now.version self.now.chunks.items parsed.number parsed.share) list.items)) lists.items }
+        requires before { AreShares self.now.version self.now.chunks.items slots.old.shares.items }
+        ensures { OnOk result (AreShares self.now.version self.now.chunks.items slots.new.shares.items) }
+    {
+        for _ in 0..lists.len() {
+            if let Some(list) = lists.pop() {
+                self.put_all(list?, slots);
+            }
+        }
+        Ok(())
+    }
+
+    /// Has that many threads parse chunks.
+    fn parse_all(&self, threads: usize, slots: &mut Slots) -> Result<(), AllocError>
+        requires { AreShares self.now.version self.now.chunks.items slots.old.shares.items }
+        ensures { OnOk result (AreShares self.now.version self.now.chunks.items slots.new.shares.items) }
+    {
+        let lists = map_indices(
+            self.rt,
+            self.alloc,
+            threads,
+            &|_thread: usize| -> Result<Vec<ParsedChunk>, AllocError>
+                ensures { IfOk result (λ list. All (λ parsed. IsShare self.entry.now.version self.entry.now.chunks.items parsed.number parsed.share) list.items) }
+            { self.parse_chunks() },
+        )?;
+        self.fill(lists, slots)?;
+        Ok(())
+    }
+
+    /// The share of the chunk of that number. The calling thread parses it if no thread has.
+    #[tactic(auto, using(crate::proofs::ParsedLines::one_share_less))]
+    fn share_of(&self, number: usize, slots: &mut Slots) -> Result<Share, AllocError>
+        requires number { number < length self.now.chunks.items }
+        requires before { AreShares self.now.version self.now.chunks.items slots.old.shares.items }
+        ensures share { IfOk result (IsShare self.now.version self.now.chunks.items number) }
+        ensures left { AreShares self.now.version self.now.chunks.items slots.new.shares.items }
+    {
+        match slots.take(number) {
+            Some(share) => Ok(share),
+            None => self.parse_chunk(number),
+        }
+    }
+
+    /// The share of each chunk, in order.
+    #[tactic(auto, using(crate::proofs::ParsedLines::next_share))]
+    fn in_order(&self, mut slots: Slots) -> Result<Vec<Share>, AllocError>
+        requires { AreShares self.now.version self.now.chunks.items slots.shares.items }
+        ensures { IfOk result (λ shares. all_lines shares.items ≡ parsed_lines self.now.version (pieces_in self.now.chunks.items)) }
+    {
+        let mut shares = Vec::with_capacity(self.alloc, self.chunks.len())?;
+        for number in 0..self.chunks.len() {
+            let share = self.share_of(number, &mut slots)?;
+            shares.push(share)?;
+        }
+        Ok(shares)
+    }
 }
 
 /// Parses the lines of a text by at most `threads` threads, of which one is the caller's. The lists
-/// of the threads are not joined to one: that would move each line once more.
-#[cycle(parsing)]
-#[tactic(auto, using(crate::proofs::ParsedLines::only_share, crate::proofs::ParsedLines::parsed_together))]
+/// of the chunks are not joined to one: that would move each line once more.
+#[tactic(auto, using(crate::proofs::ParsedLines::no_share))]
 pub(crate) fn parse_text<R: Threads + Sync>(
     rt: &R,
     alloc: Global,
@@ -149,22 +339,18 @@ pub(crate) fn parse_text<R: Threads + Sync>(
 ) -> Result<Vec<Share>, AllocError>
     ensures { IfOk result (λ shares. all_lines shares.items ≡ parsed_lines version (pieces_of text.now)) }
 {
-    let Some((front, back)) = split_shares(text, threads) else {
-        return only(alloc, parse_share(alloc, version, text)?);
-    };
-    let (shares, more) = join(
+    let chunks = cut_text(alloc, text, chunk_size(text.len(), threads))?;
+    let mut slots = Slots::new(alloc, chunks.len())?;
+    let threads = threads.min(chunks.len());
+    let parser = Parser {
         rt,
-        || -> Result<Vec<Share>, AllocError>
-            requires { IsSync R.row }
-            ensures { IfOk result (λ shares. all_lines shares.items ≡ parsed_lines version (pieces_of front.entry.now)) }
-        { parse_text(rt, alloc, version, front, threads - threads / 2) },
-        || -> Result<Vec<Share>, AllocError>
-            requires { IsSync R.row }
-            ensures { IfOk result (λ shares. all_lines shares.items ≡ parsed_lines version (pieces_of back.entry.now)) }
-        { parse_text(rt, alloc, version, back, threads / 2) },
-    );
-    let mut shares = shares?;
-    let mut more = more?;
-    shares.append(&mut more)?;
-    Ok(shares)
+        alloc,
+        version,
+        chunks,
+        next: AtomicU64::new(0),
+    };
+    if threads > 1 {
+        parser.parse_all(threads, &mut slots)?;
+    }
+    Ok(parser.in_order(slots)?)
 }
