@@ -38,7 +38,8 @@ BLOCKS = {"stays": 12}
 USUAL_BLOCKS = 64
 WITH_STAYS = (3, 5)  # versions of the format in which games can come and go
 PURPOSE = re.compile(r"^- `([a-z0-9_./]+)`: (\S.*)$")
-SHOWS = 600  # the number of `show` lines of the long file
+SHOWS = 600  # the number of `show` lines of the file with a long transcript
+TURNS = 2_000  # the number of `turn` lines of each game of the long file, which has 130 kB
 
 
 @dataclass(frozen=True)
@@ -153,12 +154,22 @@ def played_alone(case: Case) -> list[Alone]:
     return all_stays if case.has_stays else all_stays[:1]
 
 
-def long_file(folder: Path) -> Path:
+def many_shows(folder: Path) -> Path:
     """Makes a file whose transcript is written in several pieces, by several threads if there are
     several workers."""
-    at = Path(folder) / "long.jsonl"
+    at = Path(folder) / "shows.jsonl"
     plan = '{"games":[{"game":"a","quota":16384}]}'
     first = '{"game":"a","do":"new","mode":"solo","width":25,"height":25,'
     first += '"snakes":[{"id":"s","x":1,"y":1}],"food":[{"x":3,"y":4}]}'
     at.write_text("\n".join([plan, first, *SHOWS * ['{"game":"a","do":"show"}'], ""]))
+    return at
+
+
+def many_turns(folder: Path) -> Path:
+    """Makes a file of two games whose lines are parsed in several chunks, by several threads if
+    there are several workers."""
+    at = Path(folder) / "turns.jsonl"
+    plan = '{"games":[{"game":"a","quota":4096},{"game":"b","quota":4096}]}'
+    turns = [f'{{"game":"{game}","do":"turn","at":{at}}}' for at in range(TURNS) for game in "ab"]
+    at.write_text("\n".join([plan, *turns, ""]))
     return at

@@ -213,9 +213,10 @@ class TestRequest:
             more = ["--blocks", shapes.BLOCKS]
             for workers in range(1, 5):
                 words = ["serve", file.name, "--workers", str(workers), *more]
-                # At most the first thread, and the others of two stages.
-                assert workers <= threads_at_work(workers, *words) <= 2 * workers - 1
-            assert 2 <= threads_at_work(2, "serve", file.name, *more) <= 3
+                # At most the first thread, and those of two stages.
+                most = 2 * workers + 1 if workers > 1 else 1
+                assert workers <= threads_at_work(workers, *words) <= most
+            assert 2 <= threads_at_work(2, "serve", file.name, *more) <= 5
             assert threads_at_work(1, "alone", file.name, "--game", "g0") == 1
 
     def test_four_workers_do_the_work_once(self):

@@ -3,7 +3,7 @@ use Rattle.std.proofs.Common.{◌≡◌, ℕ, zero, suc, ◌+◌, ◌-◌, ◌*�
 use Rattle.std.specs.Prelude.{int_le}
 use Rattle.std.specs.List.{filter, range_with_len, slice_range}
 use Rattle.std.proofs.lemmas.Bool.{cases_Bool, le-leb}
-use Rattle.std.proofs.lemmas.List.{get_or-drop, get_or-take, get_or_append_left, get_or-append-add, length-map, length-take-le}
+use Rattle.std.proofs.lemmas.List.{get_or-drop, get_or-take, get_or_append_left, get_or-append-add, length-map, length-take-le, take-take}
 use Rattle.std.proofs.lemmas.List.Elements.{filter-append}
 use Rattle.std.proofs.lemmas.List.Sums.{sum_by-cons}
 use Rattle.std.proofs.lemmas.List.FromFn.{fill_by_all, get_or-map-range_with_len, length-map-range_with_len}
@@ -44,6 +44,15 @@ pub row_slice : (byte : Point → ℕ) (width height : ℕ) (plane : List ℕ) (
 row_slice byte width height plane row cells start wide has high at is taken =
     let count : start + wide - start ≡ width = omega arith in
     taken ∙ ap (λ n. take n (drop start plane)) count ∙ ap (λ n. take width (drop n plane)) at ∙ row_bytes width height byte plane row has high
+
+-- the first of the lanes that are read for a row
+pub lane_row : (byte : Point → ℕ) (width height : ℕ) (plane : List ℕ) (row : ℕ) (lanes : List ℕ) (start wide : ℕ) → HasBytes width height byte plane
+    → row < height → start ≡ (row + 1) * 32 + 1 → wide ≡ width → lanes ≡ slice_range plane start (start + 32) → take wide lanes ≡ map byte (row_of_cells width row)
+lane_row byte width height plane row lanes start wide has high at is taken =
+    let narrow = has.narrow in
+    let count : start + 32 - start ≡ 32 = omega arith in
+    ap (take wide) (taken ∙ ap (λ n. take n (drop start plane)) count) ∙ take-take wide 32 (drop start plane) (omega arith)
+    ∙ ap (λ n. take n (drop start plane)) is ∙ ap (λ n. take width (drop n plane)) at ∙ row_bytes width height byte plane row has high
 
 one_more : (n : ℕ) (row : List ℕ) → count_by is_zero (n ∷ row) ≡ cond {A = ℕ} (is_zero n) 1 0 + count_by is_zero row
 one_more n row = sum_by-cons (λ k. cond {A = ℕ} (is_zero k) 1 0) n row

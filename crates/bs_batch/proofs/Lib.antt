@@ -26,6 +26,7 @@ pub mod Hurt
 pub mod HurtFed
 pub mod Judged
 pub mod JudgedRoom
+pub mod Lanes
 pub mod LastingBoards
 pub mod Listed
 pub mod Living

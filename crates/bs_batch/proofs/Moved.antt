@@ -10,8 +10,8 @@ use Rattle.bs_rules.specs.Motion.{direction_taken, neighbor}
 use Rattle.bs_batch.specs.declared.layout.Settings.{Settings}
 use Rattle.bs_batch.specs.Directions.{given_by}
 use Rattle.bs_batch.specs.Numbers.{IsOn, number_of, numbers_of, sides_of}
-use Rattle.bs_batch.specs.Steps.{MovesBody}
-use Rattle.bs_batch.specs.inner.Steps.{StepsCell, TakesDirection, shifted}
+use Rattle.bs_batch.specs.Steps.{MovesBody, shifted}
+use Rattle.bs_batch.specs.inner.Steps.{StepsCell, TakesDirection}
 
 pub last_number : (parts : List Point) → 1 ≤ length parts → get_or (numbers_of parts) (length parts - 1) 0 ≡ number_of (last_of parts)
 last_number parts some = get_or-map number_of parts (length parts - 1) origin 0 (omega arith)

@@ -1,6 +1,6 @@
 -- A seat whose snake moves one step.
-use Rattle.std.proofs.Common.{◌≡◌, ℕ, ◌+◌, ◌-◌, ◌<◌, ◌≤◌, Bool, true, false, cond, List, ◌∷◌, ◌++◌, length, take, drop, min, All, count_by, refl, ap, ◌∙◌, arith, length-take, Option}
-use Rattle.std.proofs.lemmas.List.{length-map, take_all, take_at}
+use Rattle.std.proofs.Common.{◌≡◌, ℕ, zero, suc, ◌+◌, ◌-◌, ◌<◌, ◌≤◌, Bool, true, false, cond, List, [], ◌∷◌, ◌++◌, length, take, drop, min, All, count_by, refl, ap, ◌∙◌, arith, length-take, Option}
+use Rattle.std.proofs.lemmas.List.{take_all}
 use Rattle.std.proofs.lemmas.List.Elements.{All-cons, All-get_or, All-take}
 use Rattle.std.proofs.lemmas.List.Sums.{sum_by-cons, sum_by_more}
 use Rattle.bs_board.specs.declared.boards.point.Point.{Point}
@@ -15,12 +15,20 @@ use Rattle.bs_batch.specs.Counts.{CountsLess, CountsMore, HasBytes, and_one}
 use Rattle.bs_batch.specs.Directions.{given_by}
 use Rattle.bs_batch.specs.Numbers.{HasSides, IsOn, number_of, numbers_of, sides_of}
 use Rattle.bs_batch.specs.Shown.{food_byte, parts_on}
-use Rattle.bs_batch.specs.Steps.{MovesBody}
+use Rattle.bs_batch.specs.Steps.{MovesBody, shifted}
 use Rattle.bs_batch.specs.inner.Seats.{SeatHasRoom, ShowsSeat, byte_with}
 use Rattle.bs_batch.proofs.Alone.{living_parts}
 use Rattle.bs_batch.proofs.Bytes.{same_bytes}
 use Rattle.bs_batch.proofs.Neighbors.{near_neighbor}
 use Rattle.bs_batch.proofs.SeatWrites.{food_at_most}
+
+-- the parts behind a body that move with it leave its own as they would be alone
+lane_shifted : (h : ℕ) (room : List ℕ) (n m : ℕ) → n ≤ m → m ≤ length room
+    → take n (shifted h (take m room) ++ drop m room) ≡ shifted h (take n room)
+lane_shifted h room zero m few most = refl
+lane_shifted h [] (suc n) m few most = absurd (omega arith)
+lane_shifted h (x ∷ room) (suc n) zero few most = absurd (omega arith)
+lane_shifted h (x ∷ room) (suc n) (suc m) few most = ap (λ xs. h ∷ xs) (lane_shifted x room n m (omega arith) (omega arith))
 
 one_at_most : (b : Bool) → cond {A = ℕ} b 1 0 ≤ 1
 one_at_most true = omega arith
@@ -96,27 +104,29 @@ module _ (settings : Settings) (given : ℕ) (others : Point → ℕ) (food : Li
       let own = living_parts q s shows.alive in
       omega arith
 
-  pub moves : (n parts next lost health : ℕ) (body mid new : List ℕ) → parts ≡ seat.parts → n ≡ min parts (length room)
-      → MovesBody settings given (take n room) body next lost → CountsLess lost plane mid → CountsMore next mid new → health ≡ seat.health - 1
-      → ShowsSeat width height others food (record seat { health = health }) (body ++ drop n room) new (moved wrap (given_by given) s)
+  pub moves : (n m parts next lost health : ℕ) (lanes mid new : List ℕ) → parts ≡ seat.parts → n ≡ min parts (length room) → n ≤ m → m ≤ length room
+      → MovesBody settings given (take n room) (shifted next (take n room)) next lost → lanes ≡ shifted next (take m room)
+      → CountsLess lost plane mid → CountsMore next mid new → health ≡ seat.health - 1
+      → ShowsSeat width height others food (record seat { health = health }) (lanes ++ drop m room) new (moved wrap (given_by given) s)
       × (next ≡ number_of (head_of (moved wrap (given_by given) s).body))
-  moves n parts next lost health body mid new are is motion less more falls =
+  moves n m parts next lost health lanes mid new are is few most motion pushed less more falls =
       let long = shows.body.long in
       let all = shows.shows.parts in
       let short = spare.short in
       let same : n ≡ length s.body = omega arith in
       let numbers : take n room ≡ numbers_of s.body = ap (λ k. take k room) same ∙ shows.shows.body in
       let moved_numbers = motion s.body sides on long numbers in
-      let count : length body ≡ length after.body = ap length moved_numbers.body ∙ length-map after.body number_of in
+      let count : length after.body ≡ n = omega (arith, same, length_after) in
       let bytes_mid : HasBytes width height between mid =
       less width height between (last_of s.body) near_last moved_numbers.last (low (last_of s.body))
       (same_bytes width height (byte_with others food s) (and_one between (last_of s.body)) plane (λ q _. without_last q) shows.bytes) in
       let bytes_new = more width height between next_cell near_next moved_numbers.head (low next_cell) bytes_mid in
       let n_after = length_after in
-      let shown : ShowsSeat width height others food (record seat { health = health }) (body ++ drop n room) new after = record {
+      let shown : ShowsSeat width height others food (record seat { health = health }) (lanes ++ drop m room) new after = record {
         shows = record {
           parts = omega arith;
-          body = take_at body (drop n room) (length after.body) count ∙ moved_numbers.body;
+          body = ap (λ k. take k (lanes ++ drop m room)) count ∙ ap (λ xs. take n (xs ++ drop m room)) pushed ∙ lane_shifted next room n m few most
+              ∙ moved_numbers.body;
           health = falls ∙ ap (λ h. h - 1) shows.shows.health;
           cause = shows.shows.cause;
           killer = shows.shows.killer;

@@ -1,5 +1,5 @@
 -- The motion of a body of numbers.
-use Rattle.std.specs.Prelude.{◌≡◌, ℕ, ◌≤◌, List, length, All}
+use Rattle.std.specs.Prelude.{◌≡◌, ℕ, ◌≤◌, List, ◌∷◌, length, take, All}
 use Rattle.bs_board.specs.declared.boards.point.Point.{Point}
 use Rattle.bs_board.specs.boards.Cell.{head_of}
 use Rattle.bs_rules.specs.Feeding.{last_of}
@@ -7,6 +7,10 @@ use Rattle.bs_rules.specs.Motion.{moved_body}
 use Rattle.bs_batch.specs.declared.layout.Settings.{Settings}
 use Rattle.bs_batch.specs.Directions.{given_by}
 use Rattle.bs_batch.specs.Numbers.{HasSides, IsOn, number_of, numbers_of, sides_of}
+
+-- a new head in front, and the last part lost
+abbrev pub shifted : ℕ → List ℕ → List ℕ
+shifted head body = take (length body) (head ∷ body)
 
 -- a body on the board is moved as the rules say; its new head and the part that is lost
 pub record IsMoved (s : Settings) (given : ℕ) (parts : List Point) (new : List ℕ) (next lost : ℕ) : Type 0 where

@@ -1,14 +1,15 @@
 //! Food: what is eaten, and what appears.
 
-ghost use Rattle.std.specs.Prelude.{◌≡◌, ◌≤◌, ◌<◌, count_by, length};
+ghost use Rattle.std.specs.Prelude.{◌≡◌, ◌≤◌, ◌<◌, count_by, length, take};
 ghost use Rattle.bs_food.specs.Spawning.{with_one_food};
 ghost use Rattle.bs_batch.specs.Food.{AddsFood, RemovesEaten, Spawns};
 ghost use Rattle.bs_batch.specs.inner.Food.{HasHeadAt, IsUnderHead, KeepsFood, with_food_by};
-ghost use Rattle.bs_batch.specs.inner.FreeCells.{CountsFree, FindsFree, FindsZero, IsRow, is_zero};
+ghost use Rattle.bs_batch.specs.inner.FreeCells.{CountsFree, CountsRow, FindsFree, FindsZero, IsRow, is_zero};
 
 use crate::layout::{ALIVE, Head, LARGE_SIDE, SEATS, STRIDE, Settings};
 use crate::planes::{add_food, remove_food};
 use crate::seats::{body_of, head_of};
+use std::simd::u8x32;
 
 /// Whether the snake of a seat lives and has its head on the cell.
 #[inline]
@@ -67,19 +68,6 @@ pub fn remove_eaten(head: &mut Head, food: &mut [u16], plane: &mut [u8], bodies:
     head.foods = left.min(1024) as u16;
 }
 
-/// The number of free cells of a row.
-#[inline]
-fn free_in(row: &[u8]) -> u32
-    requires short { length row.now ≤ LARGE_SIDE }
-    ensures { result ≡ count_by is_zero row.now }
-{
-    let mut free = 0u32;
-    for count in row {
-        free = free.wrapping_add(u32::from(*count == 0));
-    }
-    free
-}
-
 /// The cells of a row of the board.
 #[inline]
 fn row_of<'a>(plane: &'a [u8], settings: &Settings, row: usize) -> &'a [u8]
@@ -95,6 +83,35 @@ fn row_of<'a>(plane: &'a [u8], settings: &Settings, row: usize) -> &'a [u8]
     }
 }
 
+/// The number of zeros among the first lanes.
+#[inline]
+fn zeros_in(lanes: &[u8], width: u32) -> u32
+    requires whole { 32 ≤ length lanes.now }
+    requires narrow { width ≤ LARGE_SIDE }
+    ensures few { result ≤ LARGE_SIDE }
+    ensures count { result ≡ count_by is_zero (take width lanes.now) }
+{
+    let zeros = u8x32::from_slice(lanes)
+        .simd_eq(u8x32::splat(0))
+        .to_bitmask();
+    (zeros % (1 << width)).count_ones()
+}
+
+/// The number of free cells of a row of the board, counted at once.
+#[inline]
+fn free_in(plane: &[u8], settings: &Settings, row: usize) -> u32
+    requires high { row < LARGE_SIDE }
+    ensures few { result ≤ LARGE_SIDE }
+    ensures count { CountsRow settings.now plane.now row result }
+{
+    let start = (row + 1) * usize::from(STRIDE) + 1;
+    let width = u32::from(settings.width.min(LARGE_SIDE));
+    match plane.get(start..start + 32) {
+        Some(lanes) => zeros_in(lanes, width),
+        None => 0,
+    }
+}
+
 /// The number of free cells of the board.
 fn count_free(plane: &[u8], settings: &Settings) -> u32
     requires high { settings.now.height ≤ LARGE_SIDE }
@@ -102,7 +119,7 @@ fn count_free(plane: &[u8], settings: &Settings) -> u32
 {
     let mut free = 0u32;
     for row in 0..usize::from(settings.height) {
-        free = free.wrapping_add(free_in(row_of(plane, settings, row)));
+        free = free.wrapping_add(free_in(plane, settings, row));
     }
     free
 }
@@ -131,9 +148,9 @@ fn free_cell(plane: &[u8], settings: &Settings, number: u32) -> u16
 {
     let mut left = number;
     for row in 0..usize::from(settings.height) {
-        let cells = row_of(plane, settings, row);
-        let free = free_in(cells);
+        let free = free_in(plane, settings, row);
         if left < free {
+            let cells = row_of(plane, settings, row);
             let column = column_of(cells, left).min(24);
             return ((row + 1) * usize::from(STRIDE) + column + 1) as u16;
         }

@@ -6,10 +6,10 @@ ghost use Rattle.bs_board.specs.boards.Cell.{is_on_board};
 ghost use Rattle.bs_rules.specs.Motion.{one_step};
 ghost use Rattle.bs_batch.specs.Directions.{direction_of};
 ghost use Rattle.bs_batch.specs.Numbers.{number_of};
-ghost use Rattle.bs_batch.specs.Steps.{MovesBody};
+ghost use Rattle.bs_batch.specs.Steps.{MovesBody, shifted};
 ghost use Rattle.bs_batch.specs.inner.Steps.{
-  shifted,
   GoesOn,
+  StepsBy,
   StepsCell,
   TakesDirection,
   WrapsCell,
@@ -53,16 +53,24 @@ fn on_torus(settings: &Settings, cell: u16) -> u16
     row * STRIDE + column
 }
 
+/// What a step adds to the number of a cell, modulo 2^16. To choose it takes no branch.
+#[inline]
+fn offset_of(direction: u8) -> u16
+    ensures { StepsBy direction result }
+{
+    match direction {
+        UP => STRIDE,
+        DOWN => 0u16.wrapping_sub(STRIDE),
+        LEFT => u16::MAX,
+        _ => 1,
+    }
+}
+
 #[inline]
 fn one_step(cell: u16, direction: u8) -> u16
     ensures { (p : Point) → is_on_board 25 25 p ≡ true → cell ≡ number_of p → result ≡ number_of (one_step p (direction_of direction)) }
 {
-    match direction {
-        UP => cell.wrapping_add(STRIDE),
-        DOWN => cell.wrapping_sub(STRIDE),
-        LEFT => cell.wrapping_sub(1),
-        _ => cell.wrapping_add(1),
-    }
+    cell.wrapping_add(offset_of(direction))
 }
 
 #[tactic(auto, using(crate::proofs::Neighbors::steps_plain))]
@@ -107,7 +115,7 @@ fn taken(settings: &Settings, head: u16, second: u16, given: u8) -> u8
 
 /// Puts a new head first; the last part is lost.
 #[inline]
-fn push_head(body: &mut [u16], head: u16)
+pub fn push_head(body: &mut [u16], head: u16)
     ensures { body.new ≡ shifted head body.old }
 {
     let mut carried = head;
@@ -116,11 +124,11 @@ fn push_head(body: &mut [u16], head: u16)
     }
 }
 
-/// Moves the body one step in the direction, straight on if it is none. Returns the new head and
-/// the part that is lost; two zeros for a body of less than three parts, which stays.
+/// The new head of a body that moves one step in the direction, straight on if it is none, and the
+/// part that it loses; two zeros for a body of less than three parts.
 #[inline]
-pub fn move_body(settings: &Settings, body: &mut [u16], given: u8) -> (u16, u16)
-    ensures { MovesBody settings.now given body.old body.new result.0 result.1 }
+pub fn ends_of(settings: &Settings, body: &[u16], given: u8) -> (u16, u16)
+    ensures { MovesBody settings.now given body.now (shifted result.0 body.now) result.0 result.1 }
 {
     if body.len() < 3 {
         return (0, 0);
@@ -128,6 +136,5 @@ pub fn move_body(settings: &Settings, body: &mut [u16], given: u8) -> (u16, u16)
     let (head, second, last) = (body[0], body[1], body[body.len() - 1]);
     let direction = taken(settings, head, second, given);
     let next = neighbor(settings, head, direction);
-    push_head(body, next);
     (next, last)
 }

@@ -1,6 +1,6 @@
 //! One turn of one game.
 
-ghost use Rattle.std.specs.Prelude.{◌≡◌, ◌≤◌, ◌<◌, slice_index_or, take};
+ghost use Rattle.std.specs.Prelude.{◌≡◌, ◌≤◌, ◌<◌, min, slice_index_or, take};
 ghost use Rattle.bs_rules.specs.Elimination.{starved_or_outside};
 ghost use Rattle.bs_batch.specs.Shown.{ChangesBoard, room_of};
 ghost use Rattle.bs_batch.specs.inner.Eliminations.{ChangesSeat, IsFirstCause, starved_or_outside_at};
@@ -25,7 +25,7 @@ use crate::layout::{
     ALIVE, CONSTRICTOR, FULL_HEALTH, Head, LARGE_SIDE, NO_SEAT, OUT_OF_HEALTH, SEATS, Seat,
     Settings, WALL_COLLISION, WRAPPED,
 };
-use crate::motion::move_body;
+use crate::motion::{ends_of, push_head};
 use crate::planes::{FOOD, add_part, at, is_on_board, remove_part};
 use crate::seats::{body_of, count, head_of};
 
@@ -37,6 +37,9 @@ pub struct Orders<'a> {
     pub words: &'a [u32],
     pub hazards: Hazards<'a>,
 }
+
+/// The parts of a body that move at once.
+const LANES: usize = 16;
 
 /// Repeats the last part, if there is room.
 #[inline]
@@ -56,7 +59,17 @@ fn repeat_last(seat: &mut Seat, plane: &mut [u8], room: &mut [u16])
     seat.parts = seat.parts.wrapping_add(1);
 }
 
-/// Moves a living snake. Returns the cell of its head.
+/// The number of parts, rounded up to whole lanes as far as there is room.
+#[inline]
+fn in_lanes(parts: u16, room: usize) -> usize
+    ensures least { min parts room ≤ result }
+    ensures most { result ≤ room }
+{
+    ((usize::from(parts) + LANES - 1) / LANES * LANES).min(room)
+}
+
+/// Moves a living snake. Returns the cell of its head. What lies behind the body moves too, up to a
+/// whole lane, so that no loop ends by the length of the body.
 #[inline]
 fn move_seat(
     settings: &Settings,
@@ -68,7 +81,9 @@ fn move_seat(
     ensures { MovesSeat settings.now given seat.old room.old plane.old seat.new room.new plane.new result }
 {
     let parts = usize::from(seat.parts).min(room.len());
-    let (next, lost) = move_body(settings, &mut room[..parts], given);
+    let (next, lost) = ends_of(settings, &room[..parts], given);
+    let lanes = in_lanes(seat.parts, room.len());
+    push_head(&mut room[..lanes], next);
     remove_part(plane, lost);
     add_part(plane, next);
     seat.health = seat.health.saturating_sub(1);
@@ -159,9 +174,9 @@ fn first_out_at(head: &mut Head, plane: &mut [u8], bodies: &[u16], seat: usize)
     ensures foods { head.new.foods ≡ head.old.foods }
     ensures board { ChangesSeat starved_or_outside_at seat bodies.now head.old plane.old head.new plane.new }
 {
-    let judged = head.seats[seat];
-    if judged.cause == ALIVE {
-        let cause = first_cause(&head.settings, judged.health, bodies, seat, judged.parts);
+    if head.seats[seat].cause == ALIVE {
+        let (health, parts) = (head.seats[seat].health, head.seats[seat].parts);
+        let cause = first_cause(&head.settings, health, bodies, seat, parts);
         if cause != ALIVE {
             let verdict = Verdict {
                 cause,

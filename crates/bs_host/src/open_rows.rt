@@ -35,9 +35,9 @@ pub(crate) fn route_row(
     stays: &mut Registry<()>,
     alloc: Global,
     blocks: usize,
-    line: ParsedLine,
+    line: ParsedLine<'_>,
 ) -> Result<Route, AllocError>
-    ensures route { IfOk result (λ route. route ≡ route_parsed (capacity_of blocks) (seen stays.old) line) }
+    ensures route { IfOk result (λ route. route ≡ route_parsed (capacity_of blocks) (seen stays.old) line.entry) }
     ensures after { IfOk result (λ route. seen stays.new ≡ open_stays_then (seen stays.old) route) }
 {
     let route = route_line(stays, blocks, line);

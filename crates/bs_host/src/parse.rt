@@ -1,28 +1,29 @@
 //! The lines of a file, parsed by several threads: they take chunks of the text by turns.
 ghost use Rattle.std.specs.Prelude.{◌≡◌, ◌<◌, All, IfOk, IfSome, None, OnOk, Some, length, slice_index_or, slice_set};
+ghost use Rattle.std.specs.Thread.{IsSync};
 ghost use Rattle.bs_json.specs.Line.{line_of};
 ghost use Rattle.bs_host.specs.File.{pieces_of};
 ghost use Rattle.bs_host.specs.inner.Parsed.{AreShares, IsShare, all_lines, parsed_line, parsed_lines, pieces_in};
 
 use crate::lines::{split_from, split_line};
-use bs_board::{Command, Id, Version};
+use bs_board::{Command, Version};
 use bs_fiber::SharedCommand;
-use bs_json::{Line, Stray, read_line};
+use bs_json::{Line, Name, Stray, read_line};
 use bs_sched::SharedRow;
 use std::alloc::{AllocError, Global};
 use std::marker::Model;
 use std::sync::atomic::{AtomicU64, Ordering};
-use std::thread::{Threads, map_indices};
+use std::thread::{Threads, join};
 
 /// A parsed line of a file. It depends on the line's bytes and on the plan's version alone.
 #[derive(Debug, Drop)]
-pub enum ParsedLine {
+pub enum ParsedLine<'l> {
     /// A command for the game of that name.
-    Command(Id, SharedCommand),
+    Command(Name<'l>, SharedCommand),
     /// A line that admits a game.
     Admit(SharedRow),
     /// A line that dismisses the game of that name.
-    Leave(Id),
+    Leave(Name<'l>),
     /// A line of no game, for that reason.
     Stray(Stray),
     /// A line of white space only.
@@ -35,7 +36,7 @@ pub enum ParsedLine {
 fn to_shared(
     alloc: Global,
     command: Command,
-    before: Option<&ParsedLine>,
+    before: Option<&ParsedLine<'_>>,
 ) -> Result<SharedCommand, AllocError>
     ensures { IfOk result (λ shared. shared ≡ command) }
 {
@@ -48,12 +49,12 @@ fn to_shared(
 
 /// Parses a line. Its command may share the memory of the one before.
 #[inline(always)]
-pub(crate) fn parse_line(
+pub(crate) fn parse_line<'l>(
     alloc: Global,
     version: Version,
-    line: &[u8],
-    before: Option<&ParsedLine>,
-) -> Result<ParsedLine, AllocError>
+    line: &'l [u8],
+    before: Option<&ParsedLine<'_>>,
+) -> Result<ParsedLine<'l>, AllocError>
     ensures { IfOk result (λ parsed. parsed ≡ parsed_line (line_of version line.now)) }
 {
     match read_line(alloc, line, version)? {
@@ -76,11 +77,11 @@ pub(crate) fn parse_line(
 
 /// The parsed lines of a chunk of a text, in order.
 #[derive(Debug, Drop)]
-pub struct Share {
-    pub(crate) lines: Vec<ParsedLine>,
+pub struct Share<'l> {
+    pub(crate) lines: Vec<ParsedLine<'l>>,
 }
 
-impl Model for Share {
+impl<'l> Model for Share<'l> {
     ghost use Rattle.std.specs.Prelude.{List};
     ghost use Rattle.bs_host.specs.declared.parse.ParsedLine.{ParsedLine};
 
@@ -89,7 +90,7 @@ impl Model for Share {
     ghost view = { λ s. s.lines.items };
 }
 
-impl Share {
+impl Share<'_> {
     pub(crate) fn len(&self) -> usize {
         self.lines.len()
     }
@@ -97,10 +98,10 @@ impl Share {
 
 /// Parses the lines of a text one after the other.
 #[tactic(auto, using(crate::proofs::ParsedLines::fewer_left, crate::proofs::ParsedLines::one_more_parsed))]
-fn parse_share(alloc: Global, version: Version, text: &[u8]) -> Result<Share, AllocError>
+fn parse_share<'l>(alloc: Global, version: Version, text: &'l [u8]) -> Result<Share<'l>, AllocError>
     ensures { IfOk result (λ share. share ≡ parsed_lines version (pieces_of text.now)) }
 {
-    let mut lines: Vec<ParsedLine> = Vec::new(alloc);
+    let mut lines: Vec<ParsedLine<'l>> = Vec::new(alloc);
     let mut left = Some(text);
     'lines: while let Some(text) = left {
         let (line, more) = split_line(text);
@@ -146,19 +147,19 @@ fn cut_text(alloc: Global, text: &[u8], size: usize) -> Result<Vec<&[u8]>, Alloc
 
 /// A chunk that was parsed.
 #[derive(Drop)]
-struct ParsedChunk {
+struct ParsedChunk<'l> {
     /// The chunk's place in the text, from 0.
     number: usize,
-    share: Share,
+    share: Share<'l>,
 }
 
 /// The share of each chunk, once it was parsed.
 #[derive(Drop)]
-struct Slots {
-    shares: Vec<Option<Share>>,
+struct Slots<'l> {
+    shares: Vec<Option<Share<'l>>>,
 }
 
-impl Slots {
+impl<'l> Slots<'l> {
     /// Slots of which none is filled.
     fn new(alloc: Global, many: usize) -> Result<Self, AllocError>
         ensures { IfOk result (λ slots. All (λ slot. slot ≡ None) slots.shares.items) }
@@ -171,8 +172,8 @@ impl Slots {
     }
 
     /// Fills the slot of that number, if there is one.
-    fn put(&mut self, number: usize, share: Share)
-        ensures { self.new.shares.items ≡ slice_set self.old.shares.items number (Some share) }
+    fn put(&mut self, number: usize, share: Share<'l>)
+        ensures { self.new.shares.items ≡ slice_set self.old.shares.items number (Some share.entry) }
     {
         if number < self.shares.len() {
             self.shares[number] = Some(share);
@@ -180,7 +181,7 @@ impl Slots {
     }
 
     /// Empties the slot of that number, and returns what was in it.
-    fn take(&mut self, number: usize) -> Option<Share>
+    fn take(&mut self, number: usize) -> Option<Share<'l>>
         ensures taken { result ≡ slice_index_or self.old.shares.items number None }
         ensures left { self.new.shares.items ≡ slice_set self.old.shares.items number None }
     {
@@ -194,16 +195,16 @@ impl Slots {
 
 /// Threads that parse the chunks of a text, one after the other.
 #[derive(Drop)]
-struct Parser<'a, R> {
-    rt: &'a R,
+struct Parser<'r, 'l, R> {
+    rt: &'r R,
     alloc: Global,
     version: Version,
-    chunks: Vec<&'a [u8]>,
+    chunks: Vec<&'l [u8]>,
     /// The number of the first chunk that no thread has asked for.
     next: AtomicU64,
 }
 
-impl<R: Threads + Sync> Parser<'_, R> {
+impl<'l, R: Threads + Sync> Parser<'_, 'l, R> {
     /// The number of the next chunk. Each is returned once.
     fn next(&self) -> Option<usize>
         ensures { IfSome result (λ number. number < length self.now.chunks.items) }
@@ -217,7 +218,7 @@ impl<R: Threads + Sync> Parser<'_, R> {
     }
 
     /// Parses the chunk of that number.
-    fn parse_chunk(&self, number: usize) -> Result<Share, AllocError>
+    fn parse_chunk(&self, number: usize) -> Result<Share<'l>, AllocError>
         requires { number < length self.now.chunks.items }
         ensures { IfOk result (IsShare self.now.version self.now.chunks.items number) }
     {
@@ -225,7 +226,7 @@ impl<R: Threads + Sync> Parser<'_, R> {
     }
 
     /// Parses chunks until none is left.
-    fn parse_chunks(&self) -> Result<Vec<ParsedChunk>, AllocError>
+    fn parse_chunks(&self) -> Result<Vec<ParsedChunk<'l>>, AllocError>
         ensures { IfOk result (λ list. All (λ parsed. IsShare self.now.version self.now.chunks.items parsed.number parsed.share) list.items) }
     {
         let mut list = Vec::new(self.alloc);
@@ -241,7 +242,7 @@ impl<R: Threads + Sync> Parser<'_, R> {
 
     /// Puts a share into its slot.
     #[tactic(auto, using(crate::proofs::ParsedLines::one_more_share))]
-    fn put(&self, parsed: ParsedChunk, slots: &mut Slots)
+    fn put(&self, parsed: ParsedChunk<'l>, slots: &mut Slots<'l>)
         requires parsed { IsShare self.now.version self.now.chunks.items parsed.number parsed.share }
         requires before { AreShares self.now.version self.now.chunks.items slots.old.shares.items }
         ensures { AreShares self.now.version self.now.chunks.items slots.new.shares.items }
@@ -251,7 +252,7 @@ impl<R: Threads + Sync> Parser<'_, R> {
     }
 
     /// Puts the shares that a thread has parsed into their slots.
-    fn put_all(&self, mut list: Vec<ParsedChunk>, slots: &mut Slots)
+    fn put_all(&self, mut list: Vec<ParsedChunk<'l>>, slots: &mut Slots<'l>)
         requires parsed { All (λ parsed. IsShare self.now.version self.now.chunks.items parsed.number parsed.share) list.items }
         requires before { AreShares self.now.version self.now.chunks.items slots.old.shares.items }
         ensures { AreShares self.now.version self.now.chunks.items slots.new.shares.items }
@@ -263,44 +264,43 @@ impl<R: Threads + Sync> Parser<'_, R> {
         }
     }
 
-    /// Puts the shares that all threads have parsed into their slots.
-    fn fill(
-        &self,
-        mut lists: Vec<Result<Vec<ParsedChunk>, AllocError>>,
-        slots: &mut Slots,
-    ) -> Result<(), AllocError>
-        requires parsed { All (λ some. IfOk some (λ list. All (λ parsed. IsShare self.now.version self.now.chunks.items parsed.number parsed.share) list.items)) lists.items }
-        requires before { AreShares self.now.version self.now.chunks.items slots.old.shares.items }
-        ensures { OnOk result (AreShares self.now.version self.now.chunks.items slots.new.shares.items) }
+    /// Parses the chunks on that many new threads. The calling thread starts them all and waits:
+    /// the scheduler may put the first one on its processor, where it would wait for the caller.
+    #[cycle(parsing)]
+    fn parse_on(&self, threads: usize) -> Result<Vec<ParsedChunk<'l>>, AllocError>
+        ensures { IfOk result (λ list. All (λ parsed. IsShare self.now.version self.now.chunks.items parsed.number parsed.share) list.items) }
     {
-        for _ in 0..lists.len() {
-            if let Some(list) = lists.pop() {
-                self.put_all(list?, slots);
-            }
+        if threads == 0 {
+            return Ok(Vec::new(self.alloc));
         }
-        Ok(())
+        let fewer = threads - 1;
+        let first = || -> Result<Vec<ParsedChunk>, AllocError>
+            ensures { IfOk result (λ list. All (λ parsed. IsShare self.entry.now.version self.entry.now.chunks.items parsed.number parsed.share) list.items) }
+        { self.parse_chunks() };
+        let others = || -> Result<Vec<ParsedChunk>, AllocError>
+            requires { IsSync R.row }
+            ensures { IfOk result (λ list. All (λ parsed. IsShare self.entry.now.version self.entry.now.chunks.items parsed.number parsed.share) list.items) }
+        { self.parse_on(fewer) };
+        let (list, more) = join(self.rt, first, others);
+        let mut list = list?;
+        let mut more = more?;
+        list.append(&mut more)?;
+        Ok(list)
     }
 
     /// Has that many threads parse chunks.
-    fn parse_all(&self, threads: usize, slots: &mut Slots) -> Result<(), AllocError>
+    fn parse_all(&self, threads: usize, slots: &mut Slots<'l>) -> Result<(), AllocError>
         requires { AreShares self.now.version self.now.chunks.items slots.old.shares.items }
         ensures { OnOk result (AreShares self.now.version self.now.chunks.items slots.new.shares.items) }
     {
-        let lists = map_indices(
-            self.rt,
-            self.alloc,
-            threads,
-            &|_thread: usize| -> Result<Vec<ParsedChunk>, AllocError>
-                ensures { IfOk result (λ list. All (λ parsed. IsShare self.entry.now.version self.entry.now.chunks.items parsed.number parsed.share) list.items) }
-            { self.parse_chunks() },
-        )?;
-        self.fill(lists, slots)?;
+        let list = self.parse_on(threads)?;
+        self.put_all(list, slots);
         Ok(())
     }
 
     /// The share of the chunk of that number. The calling thread parses it if no thread has.
     #[tactic(auto, using(crate::proofs::ParsedLines::one_share_less))]
-    fn share_of(&self, number: usize, slots: &mut Slots) -> Result<Share, AllocError>
+    fn share_of(&self, number: usize, slots: &mut Slots<'l>) -> Result<Share<'l>, AllocError>
         requires number { number < length self.now.chunks.items }
         requires before { AreShares self.now.version self.now.chunks.items slots.old.shares.items }
         ensures share { IfOk result (IsShare self.now.version self.now.chunks.items number) }
@@ -314,7 +314,7 @@ impl<R: Threads + Sync> Parser<'_, R> {
 
     /// The share of each chunk, in order.
     #[tactic(auto, using(crate::proofs::ParsedLines::next_share))]
-    fn in_order(&self, mut slots: Slots) -> Result<Vec<Share>, AllocError>
+    fn in_order(&self, mut slots: Slots<'l>) -> Result<Vec<Share<'l>>, AllocError>
         requires { AreShares self.now.version self.now.chunks.items slots.shares.items }
         ensures { IfOk result (λ shares. all_lines shares.items ≡ parsed_lines self.now.version (pieces_in self.now.chunks.items)) }
     {
@@ -327,16 +327,16 @@ impl<R: Threads + Sync> Parser<'_, R> {
     }
 }
 
-/// Parses the lines of a text by at most `threads` threads, of which one is the caller's. The lists
-/// of the chunks are not joined to one: that would move each line once more.
+/// Parses the lines of a text by at most `threads` threads: new ones, or the calling thread alone.
+/// The lists of the chunks are not joined to one: that would move each line once more.
 #[tactic(auto, using(crate::proofs::ParsedLines::no_share))]
-pub(crate) fn parse_text<R: Threads + Sync>(
+pub(crate) fn parse_text<'l, R: Threads + Sync>(
     rt: &R,
     alloc: Global,
     version: Version,
-    text: &[u8],
+    text: &'l [u8],
     threads: usize,
-) -> Result<Vec<Share>, AllocError>
+) -> Result<Vec<Share<'l>>, AllocError>
     ensures { IfOk result (λ shares. all_lines shares.items ≡ parsed_lines version (pieces_of text.now)) }
 {
     let chunks = cut_text(alloc, text, chunk_size(text.len(), threads))?;

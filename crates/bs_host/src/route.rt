@@ -13,7 +13,7 @@ ghost use Rattle.bs_host.specs.inner.Routing.{IsRouted, WillRoute};
 use crate::limits::BLOCK_BYTES;
 use crate::open_rows::route_row;
 use crate::parse::{ParsedLine, Share};
-use bs_board::{Id, Rows};
+use bs_board::Rows;
 use bs_fiber::SharedCommand;
 use bs_json::Stray;
 use bs_registry::{Refusal, Registry, blocks_of, open_rows};
@@ -32,7 +32,7 @@ pub enum Route {
     Nowhere,
 }
 
-fn hand<T: Drop>(stays: &mut Registry<T>, game: &Id, command: SharedCommand) -> Route
+fn hand<T: Drop>(stays: &mut Registry<T>, game: &[u8], command: SharedCommand) -> Route
     ensures route { result ≡ hand_route (found_in game.now (rows_in stays.old)) command }
     ensures same { stays.new ≡ stays.old }
 {
@@ -54,7 +54,7 @@ fn admit<T: Drop>(stays: &Registry<T>, blocks: usize, row: SharedRow) -> Route
     }
 }
 
-fn leave<T: Drop>(stays: &mut Registry<T>, game: &Id) -> Route
+fn leave<T: Drop>(stays: &mut Registry<T>, game: &[u8]) -> Route
     ensures route { result ≡ leave_route (found_in game.now (rows_in stays.old)) }
     ensures same { stays.new ≡ stays.old }
 {
@@ -66,15 +66,19 @@ fn leave<T: Drop>(stays: &mut Registry<T>, game: &Id) -> Route
 
 /// Routes a parsed line of a file that is served with `blocks` blocks. Opens and closes no stay.
 #[tactic(auto, using(crate::proofs::OpenStayRoutes::routed_follows))]
-pub(crate) fn route_line<T: Drop>(stays: &mut Registry<T>, blocks: usize, line: ParsedLine) -> Route
-    ensures route { result ≡ route_parsed (capacity_of blocks) (seen stays.old) line }
+pub(crate) fn route_line<T: Drop>(
+    stays: &mut Registry<T>,
+    blocks: usize,
+    line: ParsedLine<'_>,
+) -> Route
+    ensures route { result ≡ route_parsed (capacity_of blocks) (seen stays.old) line.entry }
     ensures same { stays.new ≡ stays.old }
     ensures follows { may_follow (seen stays.old) result ≡ true }
 {
     match line {
-        ParsedLine::Command(game, command) => hand(stays, &game, command),
+        ParsedLine::Command(game, command) => hand(stays, game.as_bytes(), command),
         ParsedLine::Admit(row) => admit(stays, blocks, row),
-        ParsedLine::Leave(game) => leave(stays, &game),
+        ParsedLine::Leave(game) => leave(stays, game.as_bytes()),
         ParsedLine::Stray(kind) => Route::Stray(kind),
         ParsedLine::Blank => Route::Nowhere,
     }
@@ -119,8 +123,13 @@ impl Router {
     /// Routes the next line of a file that is served with `blocks` blocks.
     #[tactic(auto, using(crate::proofs::ParsedLines::goes_on))]
     #[inline(always)]
-    fn route(&mut self, alloc: Global, blocks: usize, line: ParsedLine) -> Result<(), AllocError>
-        ensures { (all : List (ℕ × Route)) (later : List ParsedLine) → WillRoute (capacity_of blocks) all self.old (line ∷ later)
+    fn route(
+        &mut self,
+        alloc: Global,
+        blocks: usize,
+        line: ParsedLine<'_>,
+    ) -> Result<(), AllocError>
+        ensures { (all : List (ℕ × Route)) (later : List ParsedLine) → WillRoute (capacity_of blocks) all self.old (line.entry ∷ later)
             → OnOk result (WillRoute (capacity_of blocks) all self.new later) }
     {
         let route = route_row(&mut self.open_stays, alloc, blocks, line)?;
@@ -130,8 +139,13 @@ impl Router {
     }
 
     /// Routes the lines of a share.
-    fn route_share(&mut self, alloc: Global, blocks: usize, share: Share) -> Result<(), AllocError>
-        ensures { (all : List (ℕ × Route)) (later : List ParsedLine) → WillRoute (capacity_of blocks) all self.old (share ++ later)
+    fn route_share(
+        &mut self,
+        alloc: Global,
+        blocks: usize,
+        share: Share<'_>,
+    ) -> Result<(), AllocError>
+        ensures { (all : List (ℕ × Route)) (later : List ParsedLine) → WillRoute (capacity_of blocks) all self.old (share.entry ++ later)
             → OnOk result (WillRoute (capacity_of blocks) all self.new later) }
     {
         let Share { lines } = share;
@@ -143,7 +157,7 @@ impl Router {
 }
 
 /// The number of lines of all shares.
-fn count_lines(shares: &[Share]) -> usize {
+fn count_lines(shares: &[Share<'_>]) -> usize {
     let mut count = 0usize;
     for share in shares {
         count = count.saturating_add(share.len());
@@ -158,9 +172,9 @@ pub(crate) fn route_lines(
     alloc: Global,
     blocks: usize,
     rows: &Rows,
-    shares: Vec<Share>,
+    shares: Vec<Share<'_>>,
 ) -> Result<Requests, AllocError>
-    ensures { IfOk result (IsRouted (routes_parsed (capacity_of blocks) (open_stays_of (opened rows.now)) 2 (all_lines shares.items))) }
+    ensures { IfOk result (IsRouted (routes_parsed (capacity_of blocks) (open_stays_of (opened rows.now)) 2 (all_lines shares.entry.items))) }
 {
     let mut router = Router {
         open_stays: open_rows(alloc, rows)?,

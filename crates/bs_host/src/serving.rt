@@ -62,11 +62,11 @@ fn open_core(
 }
 
 /// The core of a file with its lines, or the fault of opening, else that of parsing.
-fn opened_with(
-    file: CommandFile<'_>,
+fn opened_with<'f>(
+    file: CommandFile<'f>,
     core: Result<Core<BLOCK_BYTES>, Fault>,
-    lines: Result<Vec<Share>, AllocError>,
-) -> Result<(Core<BLOCK_BYTES>, Vec<Share>), Fault>
+    lines: Result<Vec<Share<'f>>, AllocError>,
+) -> Result<(Core<BLOCK_BYTES>, Vec<Share<'f>>), Fault>
     requires core { IfOk core (IsCoreOf file.blocks file.plan.now) }
     requires fault { IfErr core (IsRefusal (refusal_of_plan file.blocks (Ok file.plan.now))) }
     requires lines { IfOk lines
@@ -81,12 +81,12 @@ fn opened_with(
 
 /// Opens a core for the plan of a file. If there may be several threads, its lines are parsed
 /// meanwhile; the fault of opening comes before that of parsing.
-fn open_file<R: Threads + Sync>(
+fn open_file<'f, R: Threads + Sync>(
     rt: &R,
     alloc: Global,
-    file: CommandFile<'_>,
+    file: CommandFile<'f>,
     threads: usize,
-) -> Result<(Core<BLOCK_BYTES>, Vec<Share>), Fault>
+) -> Result<(Core<BLOCK_BYTES>, Vec<Share<'f>>), Fault>
     requires { threads ≤ MOST_THREADS }
     ensures core { IfOk result (λ opened. IsCoreOf file.entry.blocks file.entry.plan.now opened.0) }
     ensures lines { IfOk result
@@ -169,12 +169,12 @@ pub fn serve_by<R: Threads + Sync, G: Gate, W: Write, C: WriteCalls<W>>(
     Ok(played.write::<R, W, C>(rt, alloc, threads, output)?)
 }
 
-/// Serves a command file with `blocks` blocks of memory and `workers` threads, the caller's
-/// included: a core answers each game's commands in the order of their lines, then the transcript
-/// is written. If there are several threads, one more opens the core while the others parse, and
-/// one more frees the acts while they render. `gate` is consulted before each job, with the
-/// thread's number. After every fault but a writer's the writer is unchanged, and nothing is
-/// allocated once the first byte is written. Returns the core.
+/// Serves a command file with `blocks` blocks of memory and `workers` threads: a core answers each
+/// game's commands in the order of their lines, then the transcript is written. If there are
+/// several threads, the calling one starts those that parse and waits for them; one more opens the
+/// core meanwhile, and one more frees the acts while the transcript is rendered. `gate` is
+/// consulted before each job, with the thread's number. After every fault but a writer's the writer
+/// is unchanged, and nothing is allocated once the first byte is written. Returns the core.
 pub fn serve<R: Threads + Sync, G: Gate, W: Write>(
     rt: &R,
     alloc: Global,

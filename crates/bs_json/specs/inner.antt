@@ -2,5 +2,6 @@
 pub mod BoardText
 pub mod Compact
 pub mod Minified
+pub mod Names
 pub mod Replies
 pub mod Sorted

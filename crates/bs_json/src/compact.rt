@@ -11,6 +11,7 @@ ghost use Rattle.bs_json.specs.Line.{line_of};
 ghost use Rattle.bs_json.specs.declared.limits.TheConstants.{MAX_LINE};
 
 use crate::line::Line;
+use crate::name::Name;
 use crate::ordered_moves::in_order;
 use bs_board::limits::{LAST_TURN, MOST_WORDS};
 use bs_board::{Command, Direction, Id, Move, Moves, TurnNumber, Words};
@@ -104,7 +105,7 @@ fn split_moves<'l>(alloc: Global, line: &'l [u8]) -> Result<Option<(Moves, &'l [
         (λ cut. IfSome cut (λ found. line.now ≡ moves_text false found.0 ++ 125 ∷ found.1.now)) }
     ensures plain { IfOk result (λ cut. IfSome cut (λ found. are_plain_moves found.0 ≡ true)) }
 {
-    let mut moves = Moves::with_capacity(alloc, line.len())?;
+    let mut moves = Moves::new(alloc);
     let mut left = line;
     let mut later = false;
     for _turn in 0..line.len() {
@@ -301,10 +302,14 @@ fn split_game<'l>(line: &'l [u8]) -> Option<(&'l [u8], &'l [u8])>
     Some((game, strip_prefix(rest, b",\"do\":\"")?))
 }
 
-/// Parses a line in its compact form, in a file of any version; `None` for any other line.
+/// Parses a line in its compact form, in a file of any version; `None` for any other line. The name
+/// of its game is not copied.
 #[tactic(auto, using(crate::proofs::CompactLines::line_of_compact))]
 #[inline(always)]
-pub(crate) fn compact_line(alloc: Global, line: &[u8]) -> Result<Option<Line>, AllocError>
+pub(crate) fn compact_line<'l>(
+    alloc: Global,
+    line: &'l [u8],
+) -> Result<Option<Line<'l>>, AllocError>
     requires { length line.now ≤ MAX_LINE }
     ensures { IfOk result (λ found. IfSome found (λ l. (version : AnyVersion) → l ≡ line_of version line.now)) }
 {
@@ -314,9 +319,21 @@ pub(crate) fn compact_line(alloc: Global, line: &[u8]) -> Result<Option<Line>, A
     let Some((command, _written)) = parse_order(alloc, order)? else {
         return Ok(None);
     };
-    let Some(name) = as_text(name) else {
+    let game = Name::lent(name);
+    Ok(Some(Line::Command { game, command }))
+}
+
+/// Copies the name of a command's game out of the line. `None` if it is no text, which a name in a
+/// line in its compact form is.
+pub(crate) fn owned_line<'l>(alloc: Global, line: Line<'_>) -> Result<Option<Line<'l>>, AllocError>
+    ensures { IfOk result (λ found. IfSome found (λ l. l ≡ line.entry)) }
+{
+    let Line::Command { game, command } = line else {
         return Ok(None);
     };
-    let game = Id::from_str(alloc, name)?;
+    let Some(name) = as_text(game.as_bytes()) else {
+        return Ok(None);
+    };
+    let game = Name::own(alloc, Id::from_str(alloc, name)?)?;
     Ok(Some(Line::Command { game, command }))
 }

@@ -11,6 +11,7 @@ pub mod line;
 mod line_bounds;
 mod minified;
 mod moves;
+pub mod name;
 mod ordered_moves;
 mod pieces;
 pub mod plan;
@@ -24,6 +25,7 @@ pub use boards::board_value;
 pub use limits::{MAX_LINE, MOST_WORD, USUAL_CHANCE, USUAL_MIN_FOOD};
 pub use line::{Line, Stray, read_line};
 pub use line_bounds::{final_line_bound, reply_line_bound, stray_line_bound};
+pub use name::Name;
 pub use plan::{PlanFault, read_plan};
 pub use replies::{
     final_line, push_final_line, push_reply_line, push_stray_line, reply_line, stray_line,

@@ -10,9 +10,10 @@ use crate::commands::command_of;
 use crate::compact::compact_line;
 use crate::limits::MAX_LINE;
 use crate::minified::spaced_line;
+use crate::name::Name;
 use crate::plan::row_from;
 use crate::values::{id_at, parsed, text_at};
-use bs_board::{Command, Id, Row, Version};
+use bs_board::{Command, Row, Version};
 use serde_json::Value;
 use std::alloc::{AllocError, Global};
 
@@ -40,12 +41,12 @@ pub enum Stray {
 
 /// A parsed line of a command file, after its first.
 #[derive(Debug, Drop)]
-pub enum Line {
+pub enum Line<'l> {
     /// Only white space; the line is skipped.
     Blank,
-    Command { game: Id, command: Command },
+    Command { game: Name<'l>, command: Command },
     /// It names its game, and is no valid command.
-    Bad { game: Id },
+    Bad { game: Name<'l> },
     Stray(Stray),
     /// It admits a game, from version 3 on.
     Admit(Row),
@@ -53,7 +54,7 @@ pub enum Line {
     BadAdmit,
     /// It dismisses the game of that name, from version 3 on. `None` if the name is missing or not
     /// a string.
-    Leave { game: Option<Id> },
+    Leave { game: Option<Name<'l>> },
 }
 
 pub(crate) fn is_space(byte: u8) -> bool
@@ -78,12 +79,26 @@ fn does(value: &Value, word: &str) -> bool
     }
 }
 
+/// The member `game`, if it is a string.
+fn name_at<'l>(alloc: Global, value: &Value) -> Result<Option<Name<'l>>, AllocError>
+    ensures { IfOk result (λ name. name ≡ text_at (codes "game") (view value.now)) }
+{
+    match id_at(alloc, value, "game")? {
+        Some(id) => Ok(Some(Name::own(alloc, id)?)),
+        None => Ok(None),
+    }
+}
+
 /// Reads a line that neither admits nor dismisses a game.
-fn command_line(alloc: Global, version: Version, value: &mut Value) -> Result<Line, AllocError>
+fn command_line<'l>(
+    alloc: Global,
+    version: Version,
+    value: &mut Value,
+) -> Result<Line<'l>, AllocError>
     ensures { IfOk result
         (λ line. line ≡ command_line version (view value.old) (text_at (codes "game") (view value.old))) }
 {
-    let Some(game) = id_at(alloc, value, "game")? else {
+    let Some(game) = name_at(alloc, value)? else {
         return Ok(Line::Stray(Stray::Game));
     };
     match command_of(alloc, version, value)? {
@@ -93,7 +108,7 @@ fn command_line(alloc: Global, version: Version, value: &mut Value) -> Result<Li
 }
 
 /// Reads a line that admits a game.
-fn admit_line(alloc: Global, value: &Value) -> Result<Line, AllocError>
+fn admit_line<'l>(alloc: Global, value: &Value) -> Result<Line<'l>, AllocError>
     ensures { IfOk result (λ line. line ≡ admit_line (row_from (view value.now))) }
 {
     match row_from(alloc, value)? {
@@ -102,20 +117,20 @@ fn admit_line(alloc: Global, value: &Value) -> Result<Line, AllocError>
     }
 }
 
-fn line_in(alloc: Global, version: Version, value: &mut Value) -> Result<Line, AllocError>
+fn line_in<'l>(alloc: Global, version: Version, value: &mut Value) -> Result<Line<'l>, AllocError>
     ensures { IfOk result (λ line. line ≡ line_in version (view value.old)) }
 {
     if version.has_stays() && does(value, "admit") {
         return admit_line(alloc, value);
     }
     if version.has_stays() && does(value, "leave") {
-        let game = id_at(alloc, value, "game")?;
+        let game = name_at(alloc, value)?;
         return Ok(Line::Leave { game });
     }
     command_line(alloc, version, value)
 }
 
-fn line_from(alloc: Global, version: Version, value: &mut Value) -> Result<Line, AllocError>
+fn line_from<'l>(alloc: Global, version: Version, value: &mut Value) -> Result<Line<'l>, AllocError>
     ensures { IfOk result (λ line. line ≡ line_from version (Some (view value.old))) }
 {
     if !value.is_object() {
@@ -126,10 +141,14 @@ fn line_from(alloc: Global, version: Version, value: &mut Value) -> Result<Line,
 
 /// Parses one line of a file whose plan has that version. The line is given without its line feed.
 /// Does not check that the plan has the game. A line in its compact form is parsed without a JSON
-/// value.
+/// value, and lends its game's name.
 #[tactic(auto, unfolding(crate::specs::Line::line_of))]
 #[inline(always)]
-pub fn read_line(alloc: Global, line: &[u8], version: Version) -> Result<Line, AllocError>
+pub fn read_line<'l>(
+    alloc: Global,
+    line: &'l [u8],
+    version: Version,
+) -> Result<Line<'l>, AllocError>
     ensures { IfOk result (λ l. l ≡ line_of version line.now) }
 {
     if line.len() > MAX_LINE {

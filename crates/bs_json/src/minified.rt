@@ -9,7 +9,7 @@ ghost use Rattle.bs_json.specs.declared.minified.Place.TheVariants as place;
 ghost use Rattle.bs_json.specs.declared.limits.TheConstants.{MAX_LINE};
 ghost use Rattle.bs_json.specs.Line.{is_space, line_of};
 
-use crate::compact::{compact_line, is_plain};
+use crate::compact::{compact_line, is_plain, owned_line};
 use crate::line::{Line, is_blank, is_space};
 use memchr::memchr3;
 use std::alloc::{AllocError, Global};
@@ -177,7 +177,7 @@ fn seems_spaced(line: &[u8]) -> bool {
 
 /// Parses a line that is compact but for the white space between its tokens; `None` for any other
 /// line.
-pub(crate) fn spaced_line(alloc: Global, line: &[u8]) -> Result<Option<Line>, AllocError>
+pub(crate) fn spaced_line<'l>(alloc: Global, line: &'l [u8]) -> Result<Option<Line<'l>>, AllocError>
     requires fits { length line.now ≤ MAX_LINE }
     requires some { list_all is_space line.now ≡ false }
     ensures { IfOk result (λ found. IfSome found (λ l. (version : AnyVersion) → l ≡ line_of version line.now)) }
@@ -194,7 +194,10 @@ pub(crate) fn spaced_line(alloc: Global, line: &[u8]) -> Result<Option<Line>, Al
     if short.len() >= line.len() || is_blank(short.as_slice()) {
         return Ok(None);
     }
-    match compact_line(alloc, short.as_slice())? {
+    let Some(lent) = compact_line(alloc, short.as_slice())? else {
+        return Ok(None);
+    };
+    match owned_line(alloc, lent)? {
         Some(found) => Ok(Some(found)),
         None => Ok(None),
     }

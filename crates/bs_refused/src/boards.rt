@@ -193,7 +193,7 @@ impl Question for CopyCommand {
     }
 }
 
-/// `Moves::to_vec`, and `Moves::with_capacity` and `Moves::push`, which make the same list again.
+/// `Moves::to_vec`, and `Moves::push`, which makes the same list again.
 pub struct PushMoves;
 
 impl Question for PushMoves {
@@ -202,7 +202,7 @@ impl Question for PushMoves {
     type Answer = Moves;
 
     fn call(alloc: Global, on: &Move) -> Result<Moves, Fault> {
-        let mut moves = Moves::with_capacity(alloc, 1)?;
+        let mut moves = Moves::new(alloc);
         let entries = on.moves.to_vec(alloc)?;
         for (id, direction) in entries.as_slice() {
             moves.push(id.as_bytes(), *direction)?;

@@ -22,7 +22,7 @@ use crate::turns::{
 };
 use crate::values::{
     LONG_NAME, ON_HAZARDS, TWO_HEADS, bytes_of, kept_of, new_solo, on_hazards, plan_of,
-    shown_reply, solo, two_heads, two_orders,
+    shown_reply, solo, three_orders, two_heads,
 };
 use bs_board::{Command, Mode, Refusal, Reply, Word};
 use bs_json::Stray;
@@ -167,7 +167,7 @@ fn copy_move(rt: HostRuntime) -> Result<(), Fail> {
 #[test]
 fn push_moves(rt: HostRuntime) -> Result<(), Fail> {
     let alloc = rt.alloc();
-    ask::<PushMoves>(page_of(&rt), two_orders(alloc)?)
+    ask::<PushMoves>(page_of(&rt), three_orders(alloc)?)
 }
 
 #[test]

@@ -65,9 +65,9 @@ pub struct ReadLines;
 impl Question for ReadLines {
     type On = &'static str;
 
-    type Answer = Vec<Line>;
+    type Answer = Vec<Line<'static>>;
 
-    fn call(alloc: Global, on: &&'static str) -> Result<Vec<Line>, Fault> {
+    fn call(alloc: Global, on: &&'static str) -> Result<Vec<Line<'static>>, Fault> {
         let mut lines = Vec::new(alloc);
         for line in on.lines() {
             lines.push(read_line(alloc, line.as_bytes(), Version::Three)?)?;

@@ -97,18 +97,21 @@ pub fn move_of(moves: Moves, words: Vec<u32>) -> Result<Move, Fault> {
     Ok(Move::new(moves, Words::from_vec(words)))
 }
 
-/// Makes a move of two directions and two words.
-pub fn two_orders(alloc: Global) -> Result<Move, Fault> {
+/// Makes a move of three directions and two words. The third direction, which is of no snake of the
+/// boards here, is one too long to be stored in the value of the list.
+pub fn three_orders(alloc: Global) -> Result<Move, Fault> {
     let mut moves = Moves::new(alloc);
     moves.push(Id::from_str(alloc, "A")?.as_bytes(), Direction::Up)?;
     moves.push(Id::from_str(alloc, "B")?.as_bytes(), Direction::Left)?;
+    let long = Id::from_str(alloc, LONG_NAME)?;
+    moves.push(long.as_bytes(), Direction::Down)?;
     move_of(moves, vec![in alloc; 5, 7]?)
 }
 
 /// Makes that move, which gives a hazard and a food too.
 pub fn map_orders(alloc: Global) -> Result<Move, Fault> {
     let (hazards, food) = (cell(alloc, 0, 0)?, cell(alloc, 0, 4)?);
-    Ok(two_orders(alloc)?.with_map(Some(hazards), Some(food)))
+    Ok(three_orders(alloc)?.with_map(Some(hazards), Some(food)))
 }
 
 pub fn row_of(alloc: Global, name: &str) -> Result<Row, Fault> {

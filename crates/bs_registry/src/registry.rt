@@ -46,10 +46,16 @@ fn remove_stay<T: Drop>(stays: &mut Vec<Listed<T>>, number: usize)
     stays.retain(|stay| stay.number != number);
 }
 
-fn place_in<T>(stays: &[Listed<T>], name: &Id) -> Option<usize>
+fn is_named(name: &[u8], row: &Row) -> bool
+    ensures { result ≡ is_same_text name.now row.now.game }
+{
+    name == row.game.as_bytes()
+}
+
+fn place_in<T>(stays: &[Listed<T>], name: &[u8]) -> Option<usize>
     ensures { result ≡ position (λ stay. is_same_text name.now stay.row.game) stays.now }
 {
-    stays.iter().position(|stay| name.is_same(&stay.row.game))
+    stays.iter().position(|stay| is_named(name, &stay.row))
 }
 
 fn is_listed<T>(stays: &[Listed<T>], name: &Id) -> bool
@@ -119,16 +125,16 @@ impl<T: Drop> Registry<T> {
     }
 
     /// Whether an open stay of that name is at that index.
-    fn is_at(&self, place: usize, name: &Id) -> bool
+    fn is_at(&self, place: usize, name: &[u8]) -> bool
         ensures { result ≡ is_named_at name.now place (rows_in self.now) }
     {
-        place < self.stays.len() && name.is_same(&self.stays[place].row.game)
+        place < self.stays.len() && is_named(name, &self.stays[place].row)
     }
 
     /// The index of that name among the open stays. Looks at the likely index first, then at 0,
     /// since after the last game comes the first, and only then searches.
     #[tactic(auto, using(crate::proofs::NamedOnce::only_place))]
-    fn place(&self, name: &Id) -> Option<usize>
+    fn place(&self, name: &[u8]) -> Option<usize>
         ensures { result ≡ position (bears name.now) (rows_in self.now) }
     {
         if self.is_at(self.likely, name) {
@@ -140,9 +146,10 @@ impl<T: Drop> Registry<T> {
         place_in(&self.stays, name)
     }
 
-    /// The number of the open stay of that name. Notes the index after it as the likely one.
+    /// The number of the open stay of the name with these bytes. Notes the index after it as the
+    /// likely one.
     #[tactic(auto, using(crate::proofs::Rows::found_listed, crate::proofs::Found::found_nowhere))]
-    pub fn find(&mut self, name: &Id) -> Option<usize>
+    pub fn find(&mut self, name: &[u8]) -> Option<usize>
         ensures found { result ≡ found_in name.now (rows_in self.old) }
         ensures after { self.new ≡ self.old }
     {

@@ -6,6 +6,7 @@ use Rattle.std.proofs.KnownBytes.{Appends-nil, Appends-trans}
 use Rattle.std.proofs.Math.Seq.{take-append-add}
 use Rattle.std.proofs.lemmas.List.{drop-drop, get_or-append-add, take-append-le, take_more, drop_more}
 use Rattle.std.proofs.lemmas.List.Concat.{flat_map-append}
+use Rattle.std.proofs.lemmas.List.Elements.{All-append}
 use Rattle.bs_json.specs.Text.{Text, blank, put}
 use Rattle.bs_json.proofs.Puts.{put_whole}
 use Rattle.bs_transcript.specs.inner.Buffer.{AreBounded, IsOnItsWay}
@@ -21,6 +22,20 @@ pub one_more_line : (before lines : List (List ℕ)) (at : ℕ) → at < length 
     → (before ++ take at lines) ++ get_or lines at [] ∷ [] ≡ before ++ take (at + 1) lines
 one_more_line before lines at within =
     append_assoc before (take at lines) (get_or lines at [] ∷ []) ∙ ap (λ ls. before ++ ls) (sym (take_more lines at [] within))
+
+-- lines that are bounded, and others behind them
+pub bounded_both : (one two both : Bounds) (lines others : List (List ℕ)) → one.longest ≤ both.longest → two.longest ≤ both.longest
+    → both.total ≡ one.total + two.total → both.total < 2 ^ 64 → both.count ≡ one.count + two.count
+    → AreBounded one lines → AreBounded two others → AreBounded both (lines ++ others)
+bounded_both one two both lines others long long' total few count some more =
+    record {
+      each =
+          All-append (λ line. length line ≤ both.longest) lines others (λ k d within. let short = some.each k d within in omega arith)
+          (λ k d within. let short = more.each k d within in omega arith);
+      total = omega (arith, some.total, more.total, ap length (flat_map-append (λ line. line) lines others), length-append (joined lines) (joined others));
+      few = few;
+      count = omega (arith, some.count, more.count, length-append lines others);
+    }
 
 -- Sending.
 

@@ -4,7 +4,7 @@ ghost use Rattle.std.specs.Io.KnownBytes.{Appends};
 ghost use Rattle.bs_transcript.specs.Lines.{text_of};
 ghost use Rattle.bs_transcript.specs.Written.{HasCause, Leaves};
 
-use crate::bounds::bound_all;
+use crate::bounds::{bound_all, bound_together};
 use crate::calls::{Unrecorded, WriteCalls};
 use crate::fault::TranscriptFault;
 use crate::line_buffer::LineBuffer;
@@ -59,7 +59,7 @@ pub fn write_transcript_by<R: Threads + Sync, W: Write, C: WriteCalls<W>>(
     if threads <= 1 {
         return write_alone::<W, C>(alloc, sections, strays, output);
     }
-    let bounds = bound_all(sections, strays)?;
+    let bounds = bound_together::<R>(rt, sections, strays, threads)?;
     let most = (bounds.total / FEWEST_BYTES).min(MOST_RENDERERS);
     if most == 0 {
         return write_alone::<W, C>(alloc, sections, strays, output);

@@ -12,6 +12,10 @@ const FIRST_BOUND: usize = 3_145_728;
 /// The most lines of a thread in the first round.
 const FIRST_LINES: usize = 1_024;
 
+/// The room of a buffer besides that for the longest line, in bytes. With less, threads are started
+/// too often: each round starts them anew.
+const USUAL_TEXT: usize = 524_288;
+
 /// The bytes that a thread is to render in a round: most of a buffer.
 const FULL_TEXT: usize = 458_752;
 
@@ -57,6 +61,11 @@ impl Round {
         }
     }
 
+    /// The room of a thread's buffer, in bytes.
+    pub(crate) fn room(&self) -> usize {
+        self.bounds.longest.saturating_add(USUAL_TEXT)
+    }
+
     /// The number of the first line.
     pub(crate) fn first(&self) -> usize
         ensures { result ≡ self.now.first }
@@ -76,28 +85,23 @@ impl Round {
     }
 
     /// The number of the first line of the calling thread.
-    pub(crate) fn own_line(&self) -> usize {
+    fn own_line(&self) -> usize {
         self.line(self.threads)
     }
 
-    /// The limits of the thread of that number.
+    /// The limits of the thread of that number. The calling thread renders twice as many lines as
+    /// another at most, and stops once the others have rendered.
     pub(crate) fn limits<'f>(&self, thread: usize, finished: &'f Finished) -> Limits<'f> {
+        let (behind, threads) = if thread < self.threads {
+            (1, u64::MAX)
+        } else {
+            (2, self.threads as u64)
+        };
         Limits {
-            end: self.line(thread.saturating_add(1)),
+            end: self.line(thread.saturating_add(behind)),
             longest: self.bounds.longest,
             finished,
-            threads: u64::MAX,
-        }
-    }
-
-    /// The limits of the calling thread: it renders twice as many lines as another at most, and
-    /// stops once the others have rendered.
-    pub(crate) fn own_limits<'f>(&self, finished: &'f Finished) -> Limits<'f> {
-        Limits {
-            end: self.line(self.threads.saturating_add(2)),
-            longest: self.bounds.longest,
-            finished,
-            threads: self.threads as u64,
+            threads,
         }
     }
 

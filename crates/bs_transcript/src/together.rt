@@ -14,7 +14,7 @@ use crate::fault::TranscriptFault;
 use crate::finished::Finished;
 use crate::line_buffer::LineBuffer;
 use crate::rendered::Rendered;
-use crate::renderer::{Renderer, render_all};
+use crate::renderer::{Pair, Renderer, open_all, render_all};
 use crate::round::Round;
 use crate::section::Section;
 use crate::write::WriteFault;
@@ -22,11 +22,7 @@ use crate::writing::Writing;
 use bs_json::Stray;
 use std::alloc::{AllocError, Global};
 use std::io::Write;
-use std::thread::{Threads, join};
-
-/// The room of a buffer besides that for the longest line, in bytes. With less, threads are started
-/// too often: each round starts them anew.
-const USUAL_TEXT: usize = 524_288;
+use std::thread::{Threads, join, yield_now};
 
 /// The sections and stray lines of a transcript, with the bounds of their lines.
 #[derive(Clone, Copy)]
@@ -37,20 +33,61 @@ pub(crate) struct Source<'t> {
 }
 
 impl<'t> Source<'t> {
-    /// The room of a buffer.
-    fn room(&self) -> usize {
-        self.bounds.longest.saturating_add(USUAL_TEXT)
-    }
-
-    /// A renderer before the first line.
-    fn renderer<L: Lines>(&self, alloc: Global) -> Result<Renderer<'t, L>, AllocError>
+    /// The renderer of the thread of that number, before the first line. Its buffers have no room.
+    fn renderer<L: Lines>(&self, alloc: Global, thread: usize) -> Result<Pair<'t, L>, AllocError>
         requires { (length L.lines < 2 ^ 64) × (L.lines ≡ all_lines_of self.now.sections.now self.now.strays.now) }
     {
-        Ok(Renderer {
-            at: Cursor::start(self.sections, self.strays),
-            rendered: Rendered::none(alloc, self.room())?,
+        Ok(Pair {
+            renderer: Renderer {
+                thread,
+                at: Cursor::start(self.sections, self.strays),
+                rendered: Rendered::none(alloc, 0)?,
+            },
+            written: Rendered::none(alloc, 0)?,
         })
     }
+
+    /// The renderers of that many threads.
+    fn renderers<L: Lines>(
+        &self,
+        alloc: Global,
+        count: usize,
+    ) -> Result<Vec<Pair<'t, L>>, AllocError>
+        requires { (length L.lines < 2 ^ 64) × (L.lines ≡ all_lines_of self.now.sections.now self.now.strays.now) }
+    {
+        let mut pairs = Vec::with_capacity(alloc, count)?;
+        for thread in 0..count {
+            pairs.push(self.renderer(alloc, thread)?)?;
+        }
+        Ok(pairs)
+    }
+}
+
+/// Has each thread open its buffers and render its lines of the first round. `own` is the calling
+/// one.
+fn open_together<L: Lines + Send + Sync, R: Threads + Sync>(
+    rt: &R,
+    alloc: Global,
+    round: Round,
+    pairs: &mut [Pair<'_, L>],
+    own: &mut Pair<'_, L>,
+) -> Result<(), AllocError> {
+    let finished = Finished::none();
+    let finished = &finished;
+    let pairs = &mut *pairs;
+    let (others, mine) = join(
+        rt,
+        move || -> Result<(), AllocError>
+            requires { IsSync R.row }
+        { open_all::<L, R>(rt, alloc, round, finished, pairs) },
+        || {
+            yield_now();
+            own.open(alloc, round, finished)
+        },
+    );
+    others?;
+    mine?;
+    Ok(())
 }
 
 /// The buffers of the other threads, and those that are written meanwhile.
@@ -62,17 +99,15 @@ struct Buffers<'t, L: Lines> {
 }
 
 impl<'t, L: Lines + Send + Sync> Buffers<'t, L> {
-    /// Two buffers for each of `count` threads, and one for the calling thread.
-    fn open(alloc: Global, source: Source<'t>, count: usize) -> Result<Self, AllocError>
-        requires { (length L.lines < 2 ^ 64) × (L.lines ≡ all_lines_of source.sections.now source.strays.now) }
-    {
-        let mut renderers = Vec::with_capacity(alloc, count)?;
+    /// The buffers of these renderers. `own` is what the calling one writes.
+    fn of(alloc: Global, pairs: Vec<Pair<'t, L>>, own: Rendered<L>) -> Result<Self, AllocError> {
+        let mut renderers = Vec::with_capacity(alloc, pairs.len())?;
         let mut rendered = Vec::new(alloc);
-        for _ in 0..count {
-            renderers.push(source.renderer(alloc)?)?;
-            rendered.push(Rendered::none(alloc, source.room())?)?;
+        for pair in pairs {
+            renderers.push(pair.renderer)?;
+            rendered.push(pair.written)?;
         }
-        rendered.push(Rendered::none(alloc, source.room())?)?;
+        rendered.push(own)?;
         Ok(Buffers {
             renderers,
             rendered,
@@ -103,7 +138,8 @@ impl<'t, L: Lines + Send + Sync> Buffers<'t, L> {
     }
 }
 
-/// Writes rendered lines, and those up to the next round, while that round is rendered.
+/// Writes rendered lines, and those up to the next round, while that round is rendered. It yields
+/// first, so that the thread that starts the renderers runs at once, on whichever processor it is.
 fn write_while<'t, L: Lines + Send + Sync, R: Threads + Sync, W: Write, C: WriteCalls<W>>(
     rt: &R,
     next: Round,
@@ -135,6 +171,7 @@ fn write_while<'t, L: Lines + Send + Sync, R: Threads + Sync, W: Write, C: Write
             ensures failed { OnErr result.0 (C.has_failed result.1.now) }
             ensures same { result.1.ghost_name ≡ output.entry.ghost_name }
         {
+            yield_now();
             let written = writing.with_round::<W, C>(rendered, next, finished, output);
             (written, output)
         },
@@ -154,12 +191,6 @@ fn write_rounds<L: Lines + Send + Sync, R: Threads + Sync, W: Write, C: WriteCal
         → MatchResult result (λ _. Appends first (W.contents output.new) text) (λ fault. IsCutOff fault.written first (W.contents output.new) text) }
     ensures failed { OnErr result (C.has_failed output.new) }
 {
-    render_all::<L, R>(
-        rt,
-        round,
-        &Finished::none(),
-        buffers.renderers.as_mut_slice(),
-    );
     'rounds: while writing.at.has_line() {
         buffers.exchange(&mut writing.own);
         round = round.next(
@@ -187,13 +218,16 @@ pub(crate) fn write_together<L: Lines + Send + Sync, R: Threads + Sync, W: Write
     ensures left { IfErr result (Leaves W.contents (text_of source.entry.sections.now source.entry.strays.now) output.old output.new) }
     ensures failed { IfErr result (HasCause (C.has_failed output.new)) }
 {
-    let mut buffers: Buffers<'_, L> = Buffers::open(alloc, source, renderers)?;
+    let round = Round::start(renderers, source.bounds);
+    let mut pairs: Vec<Pair<'_, L>> = source.renderers(alloc, renderers)?;
+    let mut own: Pair<'_, L> = source.renderer(alloc, renderers)?;
+    open_together::<L, R>(rt, alloc, round, pairs.as_mut_slice(), &mut own)?;
+    let mut buffers = Buffers::of(alloc, pairs, own.written)?;
     let writing: Writing<'_, L> = Writing {
         buffer: LineBuffer::open(alloc, source.bounds.longest)?,
         at: Cursor::start(source.sections, source.strays),
-        own: source.renderer(alloc)?,
+        own: own.renderer,
     };
-    let round = Round::start(renderers, source.bounds);
     write_rounds::<L, R, W, C>(rt, round, &mut buffers, writing, output)?;
     Ok(())
 }

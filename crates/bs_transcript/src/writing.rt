@@ -126,7 +126,7 @@ impl<L: Lines> Writing<'_, L> {
         ensures failed { OnErr result (C.has_failed output.new) }
     {
         self.write_round::<W, C>(rendered, next.first(), output)?;
-        self.own.render(next.own_line(), next.own_limits(finished));
+        self.own.render_share(next, finished);
         Ok(self)
     }
 

@@ -1,7 +1,9 @@
 //! The threads of a run. First they play the stays that leave, each thread with blocks of its own;
-//! then the others, whose blocks fit the pool together. What no thread has played, the caller plays.
+//! then the others, whose blocks fit the pool together. The calling thread starts them and waits;
+//! what none has played, it plays itself.
 ghost use Rattle.std.specs.Prelude.{◌≡◌, ◌+◌, ◌<◌, ◌≤◌, ◌++◌, ◌∷◌, [], if◌then◌else◌, All, None, Some, IfErr, IfOk, OnOk, is_some, length, min, slice_index_or, slice_set};
 ghost use Rattle.std.specs.List.{filter};
+ghost use Rattle.std.specs.Thread.{IsSync};
 ghost use Rattle.bs_workers.specs.inner.PlayedRows.{is_among, is_other, rows_among};
 ghost use Rattle.bs_workers.specs.inner.Stays.{ArePlayedStays, IsPlayedStay};
 ghost use Rattle.bs_workers.specs.inner.Stops.{IsStopCause};
@@ -15,13 +17,43 @@ use crate::stop::Stop;
 use crate::turns::{Lot, Turns};
 use bs_block::Block;
 use std::alloc::{AllocError, Global};
-use std::thread::{Threads, map_indices};
+use std::thread::{Threads, join};
 
 /// What a thread has played, and the blocks that it has left.
 #[derive(Drop)]
 struct Ran<const CAP: usize> {
     stays: Vec<Lone<CAP>>,
     blocks: Vec<Block<CAP>>,
+}
+
+impl<const CAP: usize> Ran<CAP> {
+    /// No stay, and no block.
+    fn new(alloc: Global) -> Self
+        ensures { result.stays.items ≡ [] }
+    {
+        Ran {
+            stays: Vec::new(alloc),
+            blocks: Vec::new(alloc),
+        }
+    }
+
+    /// Adds what another thread has played, and its blocks.
+    fn with(self, other: Ran<CAP>) -> Result<Self, AllocError>
+        ensures stays { IfOk result (λ all. all.stays.items ≡ self.entry.stays.items ++ other.entry.stays.items) }
+        ensures blocks { IfOk result (λ all. length all.blocks.items ≡ length self.entry.blocks.items + length other.entry.blocks.items) }
+    {
+        let Ran {
+            mut stays,
+            mut blocks,
+        } = self;
+        let Ran {
+            stays: more,
+            blocks: mut others,
+        } = other;
+        append_lones(&mut stays, more)?;
+        blocks.append(&mut others)?;
+        Ok(Ran { stays, blocks })
+    }
 }
 
 fn put_lone<const CAP: usize>(ran: &mut Vec<Lone<CAP>>, lone: Lone<CAP>) -> Result<(), AllocError>
@@ -221,59 +253,59 @@ impl<R: Threads + Sync, G: Gate> Player<'_, R, G> {
         Ok(Ran { stays, blocks })
     }
 
-    /// The stays and the blocks of all threads. If several stopped, one reason is kept.
+    /// What threads return together. If several stopped, one reason is kept.
     #[tactic(auto, using(crate::proofs::Stops::kept_cause))]
-    fn join_rows<const CAP: usize>(
+    fn both<const CAP: usize>(
         &self,
-        mut rans: Vec<Result<Ran<CAP>, Stop>>,
+        one: Result<Ran<CAP>, Stop>,
+        other: Result<Ran<CAP>, Stop>,
     ) -> Result<Ran<CAP>, Stop>
-        requires { All (λ some. IfOk some (λ ran. All (λ lone. IsPlayedStay CAP self.now.workers self.now.acts.now self.now.stays.now lone.row lone.stay) ran.stays.items)
-            × IfErr some (IsStopCause (G.may_refuse self.now.gate.now))) rans.items }
+        requires one { IfOk one (λ ran. All (λ lone. IsPlayedStay CAP self.now.workers self.now.acts.now self.now.stays.now lone.row lone.stay) ran.stays.items) }
+        requires other { IfOk other (λ ran. All (λ lone. IsPlayedStay CAP self.now.workers self.now.acts.now self.now.stays.now lone.row lone.stay) ran.stays.items) }
+        requires causes { IfErr one (IsStopCause (G.may_refuse self.now.gate.now)) × IfErr other (IsStopCause (G.may_refuse self.now.gate.now)) }
+        ensures kept { IfOk result (λ all. IfOk one.entry (λ ran. IfOk other.entry (λ more. all.stays.items ≡ ran.stays.items ++ more.stays.items))) }
         ensures played { IfOk result (λ ran. All (λ lone. IsPlayedStay CAP self.now.workers self.now.acts.now self.now.stays.now lone.row lone.stay) ran.stays.items) }
         ensures cause { IfErr result (IsStopCause (G.may_refuse self.now.gate.now)) }
     {
-        let mut all = Vec::new(self.alloc);
-        let mut free = Vec::new(self.alloc);
-        let mut stopped = None;
-        for _ in 0..rans.len() {
-            match rans.pop() {
-                Some(Ok(ran)) => {
-                    let Ran { stays, mut blocks } = ran;
-                    append_lones(&mut all, stays)?;
-                    free.append(&mut blocks)?;
-                }
-                Some(Err(stop)) => stopped = Some(stop.after(stopped)),
-                None => {}
-            }
-        }
-        match stopped {
-            Some(stop) => Err(stop),
-            None => Ok(Ran {
-                stays: all,
-                blocks: free,
-            }),
+        match one {
+            Ok(ran) => match other {
+                Ok(more) => Ok(ran.with(more)?),
+                Err(stop) => Err(stop),
+            },
+            Err(stop) => match other {
+                Ok(_) => Err(stop),
+                Err(later) => Err(later.after(Some(stop))),
+            },
         }
     }
 
-    /// Has that many threads play stays.
-    fn run_all<const CAP: usize>(
+    /// Has threads `thread` to `end - 1` play stays. The calling thread starts them, one after the
+    /// other, and waits: a new thread may begin on the processor of the one that started it, and
+    /// would have to wait there while that one plays.
+    #[cycle(playing)]
+    fn run_threads<const CAP: usize>(
         &self,
         turns: &Turns<CAP>,
-        threads: usize,
+        thread: usize,
+        end: usize,
     ) -> Result<Ran<CAP>, Stop>
         ensures played { IfOk result (λ ran. All (λ lone. IsPlayedStay CAP self.now.workers self.now.acts.now self.now.stays.now lone.row lone.stay) ran.stays.items) }
         ensures cause { IfErr result (IsStopCause (G.may_refuse self.now.gate.now)) }
     {
-        let rans = map_indices(
-            self.rt,
-            self.alloc,
-            threads,
-            &|thread: usize| -> Result<Ran<CAP>, Stop>
-                ensures { IfOk result (λ ran. All (λ lone. IsPlayedStay CAP self.entry.now.workers self.entry.now.acts.now self.entry.now.stays.now lone.row lone.stay) ran.stays.items)
-                    × IfErr result (IsStopCause (G.may_refuse self.entry.now.gate.now)) }
-            { self.run_rows(turns, thread) },
-        )?;
-        self.join_rows(rans)
+        if thread >= end {
+            return Ok(Ran::new(self.alloc));
+        }
+        let next = thread + 1;
+        let one = || -> Result<Ran<CAP>, Stop>
+            requires { IsSync R.row }
+            ensures { IfOk result (λ ran. All (λ lone. IsPlayedStay CAP self.entry.now.workers self.entry.now.acts.now self.entry.now.stays.now lone.row lone.stay) ran.stays.items) × IfErr result (IsStopCause (G.may_refuse self.entry.now.gate.now)) }
+        { self.run_rows(turns, thread) };
+        let others = || -> Result<Ran<CAP>, Stop>
+            requires { IsSync R.row }
+            ensures { IfOk result (λ ran. All (λ lone. IsPlayedStay CAP self.entry.now.workers self.entry.now.acts.now self.entry.now.stays.now lone.row lone.stay) ran.stays.items) × IfErr result (IsStopCause (G.may_refuse self.entry.now.gate.now)) }
+        { self.run_threads(turns, next, end) };
+        let (ran, more) = join(self.rt, one, others);
+        self.both(ran, more)
     }
 
     /// A list of blocks for each thread, each with as many.
@@ -355,7 +387,7 @@ impl<R: Threads + Sync, G: Gate> Player<'_, R, G> {
             let lots = self.lots_of(rows.as_slice(), free)?;
             Turns::new(rows, Vec::new(self.alloc), lots)
         };
-        let Ran { stays, mut blocks } = self.run_all(&turns, threads)?;
+        let Ran { stays, mut blocks } = self.run_threads(&turns, 0, threads)?;
         free.append(&mut blocks)?;
         let Turns { shares, lots, .. } = turns;
         take_back(free, shares)?;

@@ -8,7 +8,7 @@ pub(crate) struct Request<'a, R, G> {
     pub(crate) rt: &'a R,
     pub(crate) alloc: Global,
     pub(crate) acts: &'a [Act],
-    /// How many threads there may be, the caller's included.
+    /// How many threads may work at a time.
     pub(crate) threads: usize,
     pub(crate) gate: &'a G,
 }

@@ -139,13 +139,13 @@ pub fn run_any<const CAP: usize, R: Threads + Sync, G: Gate>(
     request.run(rest)
 }
 
-/// Makes the acts in order in a newly opened core, and answers all commands on at most `threads`
-/// threads, the caller's included. There are at most as many threads as workers in the core, and no
-/// more than stays, if there are several. One thread runs the commands of a single stay without
-/// moves. `gate` gets the number of the thread, from 0. Each act must be
-/// acceptable in its place, judged by the open stays alone: a command and a leave name an open
-/// stay; for an admitted row no open stay has its name, one more stay may be open, and its blocks
-/// are free besides those reserved for the open stays.
+/// Makes the acts in order in a newly opened core, and answers all commands. At most `threads`
+/// threads work at a time; they are at most as many as workers in the core, and no more than stays,
+/// if there are several. While threads share the stays, the calling one waits for them. One thread
+/// runs the commands of a single stay without moves. `gate` gets the number of the thread, from 0.
+/// Each act must be acceptable in its place, judged by the open stays alone: a command and a leave
+/// name an open stay; for an admitted row no open stay has its name, one more stay may be open, and
+/// its blocks are free besides those reserved for the open stays.
 pub fn run<const CAP: usize, R: Threads + Sync, G: Gate>(
     rt: &R,
     alloc: Global,

@@ -85,7 +85,7 @@ fn push_direction(
 
 /// Makes the directions of two snakes.
 fn two_directions(alloc: Global) -> Result<Moves, AllocError> {
-    let mut moves = Moves::with_capacity(alloc, 8)?;
+    let mut moves = Moves::new(alloc);
     push_direction(alloc, &mut moves, "a", Direction::Up)?;
     push_direction(alloc, &mut moves, "bc", Direction::Left)?;
     Ok(moves)
@@ -105,6 +105,37 @@ fn directions_are_found_by_id(rt: HostRuntime) -> Result<(), Fail> {
         Some(Direction::Left),
     )?;
     same("no direction", moves.direction_for(b"b"), None)
+}
+
+/// The bytes of ten such entries do not fit into the value, nor into the first allocation.
+const LONG_NAMES: [&str; 10] = [
+    "a snake with an id of 32 bytes 0",
+    "a snake with an id of 32 bytes 1",
+    "a snake with an id of 32 bytes 2",
+    "a snake with an id of 32 bytes 3",
+    "a snake with an id of 32 bytes 4",
+    "a snake with an id of 32 bytes 5",
+    "a snake with an id of 32 bytes 6",
+    "a snake with an id of 32 bytes 7",
+    "a snake with an id of 32 bytes 8",
+    "a snake with an id of 32 bytes 9",
+];
+
+#[test]
+fn directions_of_long_ids_stay(rt: HostRuntime) -> Result<(), Fail> {
+    let alloc = rt.alloc();
+    let mut moves = two_directions(alloc)?;
+    for (count, id) in LONG_NAMES.iter().enumerate() {
+        push_direction(alloc, &mut moves, id, Direction::Down)?;
+        let copy = moves.copy(alloc)?;
+        holds("a copy", copy.is_same(&moves))?;
+        let entries = copy.to_vec(alloc)?;
+        same("entries", entries.len(), count + 3)?;
+        check_direction(entries.as_slice(), 0, "a", Direction::Up)?;
+        check_direction(entries.as_slice(), 1, "bc", Direction::Left)?;
+        check_direction(entries.as_slice(), count + 2, id, Direction::Down)?;
+    }
+    Ok(())
 }
 
 #[test]

@@ -1,9 +1,10 @@
 //! Copies of a core's journal, which the core keeps.
-use crate::player::CAP;
-use crate::runs::{TWO, commands, made_by_calls, run_games};
-use bs_samples::same;
-use bs_sched::{Core, Event};
-use bs_workers::OpenGate;
+use crate::player::{CAP, core_of};
+use crate::runs::{TWO, commands, made_by_calls, push, run_games};
+use bs_board::{Command, Direction};
+use bs_samples::{holds, new_of_three, same, third_goes};
+use bs_sched::{Core, Event, LoneStay, Rest, Step};
+use bs_workers::{Act, OpenGate};
 use std::alloc::Global;
 use std::test::Fail;
 
@@ -48,4 +49,53 @@ fn a_copy_has_the_events_of_the_journal(rt: HostRuntime) -> Result<(), Fail> {
         check_copies(alloc, core, acts.len())?;
     }
     Ok(())
+}
+
+/// The plan of a single game, which takes six blocks.
+const ONE: [(&str, u32); 1] = [("a", 4096)];
+
+/// Makes four commands of the game, two of them moves.
+fn moves_of_one(alloc: Global) -> Result<Vec<Act>, Fail> {
+    let mut acts = Vec::new(alloc);
+    push(alloc, &mut acts, 0, new_of_three(alloc)?)?;
+    push(alloc, &mut acts, 0, third_goes(alloc, Direction::Down)?)?;
+    push(alloc, &mut acts, 0, third_goes(alloc, Direction::Left)?)?;
+    push(alloc, &mut acts, 0, Command::Show)?;
+    Ok(acts)
+}
+
+/// What is left of a core of the game whose blocks the stay has.
+fn rest_of_one(alloc: Global) -> Result<Rest<CAP>, Fail> {
+    let rest = core_of(alloc, &ONE, 6)?.into_rest(alloc)?;
+    Ok(Rest {
+        free: Vec::new(alloc),
+        ..rest
+    })
+}
+
+/// Puts the stay together to a core, as a run of that many commands does.
+fn put_together(alloc: Global, stay: LoneStay<CAP>, commands: usize) -> Result<Core<CAP>, Fail> {
+    let mut stays = Vec::new(alloc);
+    stays.push(stay)?;
+    let mut order = Vec::new(alloc);
+    for _ in 0..commands {
+        order.push(Step::Hand(0))?;
+    }
+    let rest = rest_of_one(alloc)?;
+    Ok(Core::assemble_stays(alloc, rest, stays, order)?)
+}
+
+/// The stay of a core that was put together has that core's events when it is put together anew.
+#[test]
+fn a_core_is_put_together_twice(rt: HostRuntime) -> Result<(), Fail> {
+    let alloc = rt.alloc();
+    let acts = moves_of_one(alloc)?;
+    let core = run_games(&rt, &ONE, acts.as_slice(), 1, &OpenGate)??;
+    let events = core.journal().to_vec(alloc)?;
+    holds("events", events.len() > acts.len())?;
+    let first = written(alloc, events.as_slice())?;
+    holds("one stay", core.rows() == 1)?;
+    let again = put_together(alloc, core.into_lone(), acts.len())?;
+    let second = written(alloc, again.into_journal().into_vec(alloc)?.as_slice())?;
+    same("events", second.as_str(), first.as_str())
 }

@@ -36,7 +36,7 @@ fn check_find<T: Drop>(
     number: Option<usize>,
 ) -> Result<(), Fail> {
     let name = Id::from_str(alloc, name)?;
-    same("found", stays.find(&name), number)
+    same("found", stays.find(name.as_bytes()), number)
 }
 
 #[test]

@@ -3,6 +3,7 @@ use bs_board::{Cells, Command, Move, New, Plan};
 use bs_json::{Line, PlanFault};
 use std::alloc::{AllocError, Global};
 use std::fmt::Debug;
+use std::str;
 
 /// Appends a word, then the value as its `Debug` writes it.
 fn push_value<T: Debug + Copy>(
@@ -71,8 +72,16 @@ fn push_command(alloc: Global, text: &mut String, command: &Command) -> Result<(
     }
 }
 
+/// The text of these bytes.
+fn text_of(bytes: &[u8]) -> &str {
+    match str::from_utf8(bytes) {
+        Ok(text) => text,
+        Err(_) => "no text",
+    }
+}
+
 /// Describes a parsed line in a few words.
-pub fn summary_of(alloc: Global, line: &Line) -> Result<String, AllocError> {
+pub fn summary_of(alloc: Global, line: &Line<'_>) -> Result<String, AllocError> {
     let mut text = String::new(alloc);
     match line {
         Line::Blank => text.push_str("blank")?,
@@ -85,15 +94,15 @@ pub fn summary_of(alloc: Global, line: &Line) -> Result<String, AllocError> {
         }
         Line::Leave { game: Some(game) } => {
             text.push_str("leave ")?;
-            text.push_str(game.as_str())?;
+            text.push_str(text_of(game.as_bytes()))?;
         }
         Line::Leave { game: None } => text.push_str("leave nothing")?,
         Line::Bad { game } => {
-            text.push_str(game.as_str())?;
+            text.push_str(text_of(game.as_bytes()))?;
             text.push_str(": bad")?;
         }
         Line::Command { game, command } => {
-            text.push_str(game.as_str())?;
+            text.push_str(text_of(game.as_bytes()))?;
             text.push_str(": ")?;
             push_command(alloc, &mut text, command)?;
         }

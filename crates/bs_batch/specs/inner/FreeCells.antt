@@ -25,6 +25,10 @@ ForBytes s plane P = (byte : Point → ℕ) → HasBytes s.width s.height byte p
 abbrev pub IsRow : Settings → List ℕ → ℕ → List ℕ → Type 0
 IsRow s plane row result = ForBytes s plane (λ byte. row < s.height → result ≡ map byte (row_of_cells s.width row))
 
+-- the zeros of a row of the board
+abbrev pub CountsRow : Settings → List ℕ → ℕ → ℕ → Type 0
+CountsRow s plane row result = ForBytes s plane (λ byte. row < s.height → result ≡ count_by is_zero (map byte (row_of_cells s.width row)))
+
 abbrev pub CountsFree : Settings → List ℕ → ℕ → Type 0
 CountsFree s plane result = ForBytes s plane (λ byte. result ≡ length (clear_cells byte s.width s.height))
 

@@ -1,16 +1,13 @@
 -- The steps of a motion.
-use Rattle.std.specs.Prelude.{◌≡◌, ℕ, ◌≤◌, true, List, ◌∷◌, length, take, nat_abs, pos, negsuc, ◌+ℤ◌, int_le, Some, ℤ}
+use Rattle.std.specs.Prelude.{◌≡◌, ℕ, ◌+◌, ◌%◌, ◌≤◌, true, List, ◌∷◌, nat_abs, pos, negsuc, ◌+ℤ◌, int_le, Some, ℤ}
 use Rattle.std.specs.Int.{int_rem_euclid}
 use Rattle.bs_board.specs.declared.boards.point.Point.{Point}
+use Rattle.bs_board.specs.boards.Cell.{is_on_board}
 use Rattle.bs_board.specs.boards.Legal.{is_near}
-use Rattle.bs_rules.specs.Motion.{direction_taken, neighbor, on_torus, onward}
+use Rattle.bs_rules.specs.Motion.{direction_taken, neighbor, on_torus, one_step, onward}
 use Rattle.bs_batch.specs.declared.layout.Settings.{Settings}
 use Rattle.bs_batch.specs.Directions.{direction_of, given_by}
 use Rattle.bs_batch.specs.Numbers.{HasSides, IsOn, number_of, sides_of}
-
--- a new head in front, and the last part lost
-abbrev pub shifted : ℕ → List ℕ → List ℕ
-shifted head body = take (length body) (head ∷ body)
 
 -- a coordinate raised by one, modulo the side
 abbrev pub WrapsSide : ℕ → ℕ → ℕ → Type 0
@@ -23,6 +20,11 @@ abbrev pub WrapsCell : Settings → ℕ → ℕ → Type 0
 WrapsCell s cell result =
     (p : Point) → HasSides s → is_near s.width s.height p ≡ true → cell ≡ number_of p
     → result ≡ number_of (on_torus (Some (s.width, s.height)) p)
+
+-- what a step adds to a number, modulo 2^16
+abbrev pub StepsBy : ℕ → ℕ → Type 0
+StepsBy direction offset =
+    (p : Point) → is_on_board 25 25 p ≡ true → (number_of p + offset) % 65536 ≡ number_of (one_step p (direction_of direction))
 
 -- the number of the cell one step further
 abbrev pub StepsCell : Settings → ℕ → ℕ → ℕ → Type 0

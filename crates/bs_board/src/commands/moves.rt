@@ -1,17 +1,19 @@
 //! The directions that a move gives to snakes.
 
 use crate::boards::point::Direction;
-use crate::commands::packed::{is_below, push_entry, split_entry};
+use crate::commands::packed::{INSIDE, is_below, push_entry, split_entry};
 use crate::id::Id;
+use smallvec::SmallVec;
 use std::alloc::{AllocError, Global};
 use std::marker::Model;
 use std::str;
 
 /// The directions given to snakes by their ids, in order. They are packed into one list of bytes,
-/// so that two lists are compared and copied as bytes.
+/// so that two lists are compared and copied as bytes. Up to 32 bytes lie in the value itself:
+/// those of two snakes with ids of up to 13 bytes, or of eight with ids of one.
 #[derive(Debug, Drop)]
 pub struct Moves {
-    bytes: Vec<u8>,
+    bytes: SmallVec<u8, INSIDE>,
 }
 
 impl Model for Moves {
@@ -38,23 +40,12 @@ impl Moves {
         ensures { result ≡ [] }
     {
         Moves {
-            bytes: Vec::new(alloc),
+            bytes: SmallVec::new(alloc),
         }
     }
 
-    /// Makes a list without entries that has room for `bytes` bytes: three for each entry, and
-    /// those of its id.
-    #[tactic(auto, using(crate::proofs::commands::PackedMoves::none_packed, crate::proofs::commands::PackedMoves::none_unpacked))]
-    pub fn with_capacity(alloc: Global, bytes: usize) -> Result<Moves, AllocError>
-        ensures { IfOk result (λ moves. moves ≡ []) }
-    {
-        Ok(Moves {
-            bytes: Vec::with_capacity(alloc, bytes)?,
-        })
-    }
-
-    /// Adds an entry. An id of more than 65,535 bytes, which no line has, is refused as if memory
-    /// ran out.
+    /// Adds an entry. Allocates only if the entries get more than 32 bytes. An id of more than
+    /// 65,535 bytes, which no line has, is refused as if memory ran out.
     #[inline(always)]
     pub fn push(&mut self, id: &[u8], direction: Direction) -> Result<(), AllocError>
         requires { is_utf8 id.now ≡ true }
@@ -135,12 +126,12 @@ impl Moves {
         Ok(entries)
     }
 
-    /// Copies the list.
+    /// Copies the list. Allocates only if it has more than 32 bytes.
     pub fn copy(&self, alloc: Global) -> Result<Moves, AllocError>
         ensures { IfOk result (λ moves. moves ≡ self.now) }
     {
         Ok(Moves {
-            bytes: Vec::from_slice(alloc, self.bytes.as_slice())?,
+            bytes: SmallVec::from_slice(alloc, self.bytes.as_slice())?,
         })
     }
 }

@@ -1,19 +1,28 @@
 //! The packed form of the directions of a move: for each snake a byte for the direction, the length
 //! of the id in two bytes, and the id.
 
-ghost use Rattle.std.specs.Prelude.{◌≡◌, ◌++◌, ◌∷◌, [], List, ℕ, MatchOption, drop, if◌then◌else◌, is_ok};
+ghost use Rattle.std.specs.Prelude.{◌≡◌, ◌++◌, ◌∷◌, [], List, ℕ, MatchOption, OnOk, drop, if◌then◌else◌, is_ok, ◌+◌, ◌≤◌};
 ghost use Rattle.bs_board.specs.declared.boards.point.Direction.{Direction as AnyDirection};
 ghost use Rattle.bs_board.specs.Texts.{is_text_below};
+ghost use Rattle.smallvec.specs.SmallVec.{HasRoomFor};
 ghost use Rattle.bs_board.specs.inner.Packed.{direction_byte, direction_of, packed, packed_move};
 
 use crate::boards::point::Direction;
 use crate::records::decoding::from_two_bytes;
 use crate::records::encoding::two_bytes;
 use crate::records::layout::cut;
+use smallvec::SmallVec;
 use std::alloc::AllocError;
+
+/// The most bytes that lie in the value itself.
+pub(crate) const INSIDE: usize = 32;
 
 /// The largest number of bytes of an id. No line has a longer one.
 const LONGEST: usize = 65_535;
+
+/// The bytes of room for later entries that a full list takes beside those of the next one: the
+/// directions of eight snakes with ids of 20 bytes take one allocation.
+const AMPLE: usize = 192;
 
 #[inline(always)]
 fn direction_byte(direction: Direction) -> u8
@@ -63,10 +72,23 @@ pub(crate) fn split_entry(bytes: &[u8]) -> Option<(&[u8], Direction, &[u8])>
     }
 }
 
+/// Makes room for `more` bytes. A full list takes room for later entries too.
+#[inline(always)]
+fn make_room(bytes: &mut SmallVec<u8, INSIDE>, more: usize) -> Result<(), AllocError>
+    requires { more ≤ LONGEST + 3 }
+    ensures items { bytes.new.items ≡ bytes.old.items }
+    ensures ok { OnOk result (HasRoomFor bytes.new more) }
+{
+    if bytes.capacity() - bytes.len() < more {
+        return bytes.reserve(more + AMPLE);
+    }
+    Ok(())
+}
+
 /// Adds an entry. An id of more than 65,535 bytes is refused as if memory ran out.
 #[inline(always)]
 pub(crate) fn push_entry(
-    bytes: &mut Vec<u8>,
+    bytes: &mut SmallVec<u8, INSIDE>,
     id: &[u8],
     direction: Direction,
 ) -> Result<(), AllocError>
@@ -75,12 +97,8 @@ pub(crate) fn push_entry(
     if id.len() > LONGEST {
         return Err(AllocError);
     }
-    let before = bytes.len();
+    make_room(bytes, 3 + id.len())?;
     let [high, low] = two_bytes(id.len() as u16);
     bytes.extend_from_slice(&[direction_byte(direction), high, low])?;
-    let added = bytes.extend_from_slice(id);
-    if added.is_err() {
-        bytes.truncate(before);
-    }
-    added
+    bytes.extend_from_slice(id)
 }

@@ -10,7 +10,8 @@ returns-then-left-free c byte has within =
     let s = c.args.settings.now in
     let high : i < s.height = omega (arith, c.loop-row-test.true, c.from-row-end.ensures) in
     let cells = c.row_of-cells.ensures.cells byte has high in
-    let some : c.loop-row.left < count_by is_zero c.row_of-cells.result.now = omega (arith, c.if-left-free.true, c.free_in-free.ensures) in
+    let free = c.free_in-free.ensures.count byte has high ∙ sym (ap (count_by is_zero) cells) in
+    let some : c.loop-row.left < count_by is_zero c.row_of-cells.result.now = omega (arith, c.if-left-free.true, free) in
     let at = c.column_of.ensures some in
     let column : c.min-column.result ≡ c.column_of.result = omega (arith, at.within, c.row_of-cells.ensures.short, c.min-column.ensures) in
     let place : (i + 1) * 32 + c.column_of.result + 1 ≡ (i + 1) * 32 + (c.column_of.result + 1) = omega arith in
@@ -22,7 +23,6 @@ pub loop-row-preserved : goal.loop-row-preserved
 loop-row-preserved c byte has =
     let i = c.loop-row.row in
     let width = c.args.settings.now.width in
-    let cells = c.row_of-cells.ensures.cells byte has (omega (arith, c.loop-row-test.true, c.from-row-end.ensures)) in
-    let here = c.free_in-free.ensures ∙ ap (count_by is_zero) cells ∙ zeros byte (row_of_cells width i) in
+    let here = c.free_in-free.ensures.count byte has (omega (arith, c.loop-row-test.true, c.from-row-end.ensures)) ∙ zeros byte (row_of_cells width i) in
     let more = length_more byte width i in
     omega (arith, here, more, c.if-left-free.false, c.loop-row.invariant byte has)

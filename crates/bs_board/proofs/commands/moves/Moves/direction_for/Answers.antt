@@ -6,7 +6,7 @@ use Rattle.bs_board.proofs.commands.PackedMoves.{given_here, given_later, none_g
 use Rattle.bs_board.proofs.commands.moves.Moves.direction_for.Goals as goal
 
 pub loop-turn-init : goal.loop-turn-init
-loop-turn-init c = (c.as_slice-left.ensures.value ∙ c.self.invariant.whole ∙ ap packed c.self.view_is, refl)
+loop-turn-init c = (c.as_slice-left.ensures ∙ c.self.invariant.whole ∙ ap packed c.self.view_is, refl)
 
 pub returns-in_err-own : goal.returns-in_err-own
 returns-in_err-own c =

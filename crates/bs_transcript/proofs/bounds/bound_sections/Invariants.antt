@@ -2,7 +2,7 @@ use Rattle.std.proofs.Common.{take}
 use Rattle.std.specs.List.{flat_map}
 use Rattle.bs_transcript.specs.inner.Buffer.{AreBounded}
 use Rattle.bs_transcript.specs.inner.Parts.{lines_of_section}
-use Rattle.bs_transcript.proofs.bounds.bound_all.Given as goal
+use Rattle.bs_transcript.proofs.bounds.bound_sections.Given as goal
 
 -- the lines of the sections so far are bounded
 abbrev pub invariant-loop-section : goal.invariant-loop-section
