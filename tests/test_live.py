@@ -1,4 +1,5 @@
 """Tests of `arena live`, for tests/live."""
+import contextlib
 import fcntl
 import json
 import os
@@ -9,6 +10,7 @@ import struct
 import subprocess
 import tempfile
 import termios
+import threading
 import time
 
 import cases
@@ -396,28 +398,35 @@ class TestMemory:
 
 class TestLong:
     def test_two_million_lines(self):
-        """A host that plays for hours: each line is answered, in its place."""
+        """A host that plays for hours: each line is answered, in its place. The answers take 500 MB,
+        so they are read at once and kept nowhere."""
         head = [
             line(games=[{"game": "a", "quota": 4096}]),
             line(**new("a", "solo", 3, [("s", 1, 1)])),
         ]
         some = (line(game="a", do="show") + "\n").encode() * 1_000
-        with tempfile.TemporaryFile() as answers:
-            run = subprocess.Popen(
-                [program.path, "live"],
-                stdin=subprocess.PIPE,
-                stdout=answers,
-                stderr=subprocess.PIPE,
-            )
-            run.stdin.write(text_of(head).encode())
-            for _ in range(2_000):
-                run.stdin.write(some)
-            assert (run.communicate(timeout=SECONDS)[1], run.returncode) == (b"", 0)
-            answers.seek(0)
+        with tempfile.TemporaryFile() as errors, subprocess.Popen(
+            [program.path, "live"],
+            stdin=subprocess.PIPE,
+            stdout=subprocess.PIPE,
+            stderr=errors,
+        ) as run:
+
+            def say():
+                with contextlib.suppress(BrokenPipeError), run.stdin:
+                    run.stdin.write(text_of(head).encode())
+                    for _ in range(2_000):
+                        run.stdin.write(some)
+
+            speaker = threading.Thread(target=say)
+            speaker.start()
             count = 0
-            for count, answer in enumerate(answers, 1):
+            for count, answer in enumerate(run.stdout, 1):
                 assert count > 2_000_001 or answer.endswith(b'"game":"a","seq":%d}\n' % count)
-        assert count == 2_000_002
+            speaker.join(SECONDS)
+            run.wait(SECONDS)
+            errors.seek(0)
+            assert (run.returncode, errors.read(), count) == (0, b"", 2_000_002)
 
     def test_two_million_reads(self):
         """A host whose lines come one by one: no read of a packet pipe has more than one write."""
