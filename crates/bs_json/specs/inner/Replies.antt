@@ -5,6 +5,7 @@ use Rattle.serde_json.specs.Sent.{IsTextOf}
 use Rattle.serde_json.specs.Written.{compact_text}
 use Rattle.serde.specs.Event.{Log}
 use Rattle.bs_board.specs.declared.commands.command.Word.{Word}
+use Rattle.bs_board.specs.declared.commands.command.Word.TheVariants as word
 use Rattle.bs_json.specs.Replies.{word_text}
 
 -- The members of a reply from the charge's number on, as a JSON text.
