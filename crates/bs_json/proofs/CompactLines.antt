@@ -1,6 +1,6 @@
 -- The compact text of a command is parsed as that command again: the line of that text is the
 -- command for its game.
-use Rattle.std.proofs.Common.{◌≡◌, ◌≤◌, ◌<◌, ◌^◌, ◌==◌, ℕ, List, [], ◌∷◌, ◌++◌, All, Bool, true, false, not, nat_le, nat_lt, Some, None, option_and_then, IsUtf8}
+use Rattle.std.proofs.Common.{◌≡◌, ◌≤◌, ◌<◌, ◌^◌, ◌==◌, ℕ, List, [], ◌∷◌, ◌++◌, All, Bool, true, false, not, nat_le, nat_lt, Some, None, Option, option_and_then, option_map, IsUtf8}
 use Rattle.std.proofs.Common.{length, codes, refl, sym, ap, ap₂, ◌∙◌, subst, arith, append_assoc, append-nil, Less, Equal, Greater}
 use Rattle.std.proofs.lemmas.Bool.{le-leb, le-ltb, leb-true}
 use Rattle.std.specs.Cmp.Lexicographic.{slice_cmp}
@@ -22,6 +22,7 @@ use Rattle.serde_json.specs.Written as written_as
 use Rattle.serde_json.proofs.Numbers.{number_of-decimal}
 use Rattle.serde_json.proofs.Texts.{print-outline}
 use Rattle.bs_board.specs.declared.boards.point.Direction.{Direction}
+use Rattle.bs_board.specs.declared.boards.point.Point.{Point}
 use Rattle.bs_board.specs.declared.boards.point.Direction.TheVariants.{Up, Down, Left, Right}
 use Rattle.bs_board.specs.declared.commands.command.Command.{Command}
 use Rattle.bs_board.specs.declared.commands.command.Command.TheVariants as command
@@ -31,14 +32,15 @@ use Rattle.bs_board.proofs.Chains.{and_both}
 use Rattle.bs_json.specs.declared.limits.TheConstants.{MAX_LINE, MOST_WORD}
 use Rattle.bs_json.specs.declared.line.Line.TheVariants as line
 use Rattle.bs_board.specs.declared.plans.version.Version.{Version}
-use Rattle.bs_board.specs.declared.plans.version.Version.TheVariants.{One, Two, Three, Five}
 use Rattle.bs_json.specs.Commands.{command_of}
 use Rattle.bs_json.specs.inner.Compact.{IsCompact, IsOrderText, are_plain, compact_text, direction_name, is_plain, line_text, moves_text, words_text}
 use Rattle.bs_json.specs.inner.Sorted.{in_order, put_move, put_moves}
 use Rattle.bs_json.specs.Line.{is_space, line_from, line_of}
-use Rattle.bs_json.specs.Moves.{direction_named, directions_of, map_from, orders_from}
+use Rattle.bs_json.specs.inner.Maps.{map_text}
+use Rattle.bs_json.specs.Moves.{direction_named, directions_of, moves_of, orders_from}
 use Rattle.bs_json.specs.Values.{each, value_of, whole_to}
 use Rattle.bs_json.proofs.CompactBytes.{all_parts, compact_is_utf8}
+use Rattle.bs_json.proofs.CompactMaps.{found_members, map_back, map_depth, map_has_numbers, map_is_written, map_members, map_read, no_map}
 use Rattle.bs_json.proofs.Texts.{value_of_read}
 
 -- ---- what is printed is parsed again
@@ -177,7 +179,7 @@ line_of_value version text rest d begins short value =
 
 -- so a line of this text is what its data gives
 line_is_from : (version : Version) (text game word : List ℕ) (rest : Members) (found : Data) → text ≡ members_line game word rest → are_plain game ≡ true → escape word ≡ word
-    → tree.MembersHaveNumbers (written_as.members_outline rest) → tree.members_depth (written_as.members_outline rest) ≤ 1
+    → tree.MembersHaveNumbers (written_as.members_outline rest) → tree.members_depth (written_as.members_outline rest) ≤ 3
     → of_json (written_as.outline (line_data game word rest)) ≡ Some found → IsUtf8 text → length text ≤ MAX_LINE → line_of version text ≡ line_from version (Some found)
 line_is_from version text game word rest found is plain same numbers shallow back utf8 short =
     let sent = is ∙ sym (line_data_text game word rest plain same) in
@@ -276,34 +278,61 @@ words_members words = member (codes "words") (array (words_items words)) no_memb
 abbrev move_data : List ℕ → List (List ℕ × Direction) → Members → Data
 move_data game moves more = object (member (codes "do") (string (codes "move")) (member (codes "game") (string game) (move_members moves more)))
 
--- a line without these members gives no hazards and no food, in any version
-no_map : (version : Version) (d : Data) → get (codes "hazards") d ≡ None → get (codes "food") d ≡ None → map_from version d ≡ Some (None, None)
-unfolding map_from
-no_map One d none nothing = refl
-no_map Two d none nothing = refl
-no_map Three d none nothing = refl
-no_map Five d none nothing = rw (none, nothing) refl
+-- what is found in a line of these moves, hazards and food
+abbrev map_data : List ℕ → List (List ℕ × Direction) → Orders → Data
+map_data game moves orders = object (found_members (string (codes "move")) (string game) (object (moves_members moves)) orders.hazards orders.food)
+
+no_words : (word game moves : Data) (hazards food : Option (List Point)) → get (codes "words") (object (found_members word game moves hazards food)) ≡ None
+no_words word game moves None None = refl
+no_words word game moves None (Some food) = refl
+no_words word game moves (Some hazards) None = refl
+no_words word game moves (Some hazards) (Some food) = refl
+
+moves_found : (word game : Data) (moves : Members) (hazards food : Option (List Point))
+    → moves_of (object (found_members word game (object moves) hazards food)) ≡ Some moves
+moves_found word game moves None None = refl
+moves_found word game moves None (Some food) = refl
+moves_found word game moves (Some hazards) None = refl
+moves_found word game moves (Some hazards) (Some food) = refl
+
+named_line : (version : Version) (game : List ℕ) (moves : Data) (hazards food : Option (List Point)) (c : Command)
+    → option_map command.Move (orders_from version (object (found_members (string (codes "move")) (string game) moves hazards food))) ≡ Some c
+    → line_from version (Some (object (found_members (string (codes "move")) (string game) moves hazards food))) ≡ line.Command game c
+unfolding command_of
+named_line version game moves None None c is = rw is refl
+named_line version game moves None (Some food) c is = rw is refl
+named_line version game moves (Some hazards) None c is = rw is refl
+named_line version game moves (Some hazards) (Some food) c is = rw is refl
 
 -- a move whose words are left out, since there are none
 bare_move_line_is : (version : Version) (text game : List ℕ) (given : List (List ℕ × Direction)) (orders : Orders) → text ≡ compact_text false given game (command.Move orders)
-    → are_plain game ≡ true → IsCompact false given (command.Move orders) → IsUtf8 text → length text ≤ MAX_LINE → line_of version text ≡ line.Command game (command.Move orders)
-unfolding command_of orders_from escape_byte
+    → are_plain game ≡ true → IsCompact version false given (command.Move orders) → IsUtf8 text → length text ≤ MAX_LINE → line_of version text ≡ line.Command game (command.Move orders)
+unfolding orders_from escape_byte
 bare_move_line_is version text game given orders is plain compact utf8 short =
-    let rest = move_members given no_members in
+    let more = map_members orders.hazards orders.food in
+    let rest = move_members given more in
     let moves = in_order given in
-    let all : moves_text false given ++ codes "}}" ≡ written_as.members_text false (moves_members given) ++ codes "}" =
-    sym (append_assoc (moves_text false given) (codes "}") (codes "}")) ∙ ap (λ some. some ++ codes "}") (sym (moves_are_written false given compact.0)) in
+    let fit = compact.2.1 in
+    let all : moves_text false given ++ (codes "}" ++ map_text orders.hazards orders.food) ≡ written_as.members_text false (moves_members given) ++ written_as.members_text true more =
+    sym (append_assoc (moves_text false given) (codes "}") (map_text orders.hazards orders.food))
+    ∙ ap₂ (λ front back. front ++ back) (sym (moves_are_written false given compact.0)) (sym (map_is_written orders.hazards orders.food)) in
     let sent : text ≡ members_line game (codes "move") rest =
     is ∙ ap (λ some. codes "{\"game\":\"" ++ (game ++ (codes "\",\"do\":\"move\",\"moves\":{" ++ some))) all in
-    let back : of_json (written_as.outline (line_data game (codes "move") rest)) ≡ Some (move_data game moves no_members) =
-    rw (members_from [] given) refl in
-    let asks : line_from version (Some (move_data game moves no_members)) ≡ line.Command game (command.Move orders) =
-    rw (no_map version (move_data game moves no_members) refl refl)
-    (ap₂ (λ found words. line.Command game (command.Move (orders_of found words))) (directions_back moves ∙ sym compact.1) (sym compact.3)
-    ∙ ap (λ orders. line.Command game (command.Move orders)) (sym compact.4)) in
+    let placed = map_back version (string (codes "move")) (string game) (object (moves_members moves)) orders.hazards orders.food fit in
+    let back : of_json (written_as.outline (line_data game (codes "move") rest)) ≡ Some (map_data game moves orders) =
+    rw (members_from [] given) (ap (option_map object) placed) in
+    let asks : orders_from version (map_data game moves orders) ≡ Some orders =
+    rw (
+      no_words (string (codes "move")) (string game) (object (moves_members moves)) orders.hazards orders.food,
+      map_read version (string (codes "move")) (string game) (object (moves_members moves)) orders.hazards orders.food fit,
+      moves_found (string (codes "move")) (string game) (moves_members moves) orders.hazards orders.food,
+    )
+    (ap₂ (λ found words. Some (record (orders_of found words) { hazards = orders.hazards; food = orders.food })) (directions_back moves ∙ sym compact.1) (sym compact.2.0)) in
     let shallow = no_depth given in
-    line_is_from version text game (codes "move") rest (move_data game moves no_members) sent plain refl (has_numbers given, tt) (omega arith) back utf8 short
-    ∙ asks
+    let shallow_map = map_depth orders.hazards orders.food in
+    line_is_from version text game (codes "move") rest (map_data game moves orders) sent plain refl
+    (has_numbers given, map_has_numbers version orders.hazards orders.food fit) (omega arith) back utf8 short
+    ∙ named_line version game (object (moves_members moves)) orders.hazards orders.food (command.Move orders) (ap (option_map command.Move) asks)
 
 -- the text after the opening brace of the moves, in the grouping of either definition
 regroup_words : (moves mark middle words close end : List ℕ) → moves ++ (mark ++ (middle ++ (words ++ (close ++ end))))
@@ -312,12 +341,12 @@ regroup_words moves mark middle words close end = simp append_assoc
 
 -- a move whose words are written
 full_move_line_is : (version : Version) (text game : List ℕ) (given : List (List ℕ × Direction)) (orders : Orders) → text ≡ compact_text true given game (command.Move orders)
-    → are_plain game ≡ true → IsCompact true given (command.Move orders) → IsUtf8 text → length text ≤ MAX_LINE → line_of version text ≡ line.Command game (command.Move orders)
+    → are_plain game ≡ true → IsCompact version true given (command.Move orders) → IsUtf8 text → length text ≤ MAX_LINE → line_of version text ≡ line.Command game (command.Move orders)
 unfolding command_of orders_from escape_byte
 full_move_line_is version text game given orders is plain compact utf8 short =
     let words = orders.words in
     let moves = in_order given in
-    let fit = compact.2 in
+    let fit = compact.2.0 in
     let more = words_members words in
     let rest = move_members given more in
     let all : moves_text false given ++ (codes "}" ++ (codes ",\"words\":[" ++ (words_text false words ++ codes "]}")))
@@ -330,7 +359,7 @@ full_move_line_is version text game given orders is plain compact utf8 short =
     rw (members_from [] given, items_back words fit.small) refl in
     let asks : line_from version (Some (move_data game moves more)) ≡ line.Command game (command.Move orders) =
     rw (no_map version (move_data game moves more) refl refl, words_back words fit.small, le-leb (length words) MOST_WORDS fit.few, directions_back moves, ← compact.1)
-    (ap (λ orders. line.Command game (command.Move orders)) (sym compact.4)) in
+    (ap₂ (λ hazards food. line.Command game (command.Move (record orders { hazards = hazards; food = food }))) (sym compact.2.1) (sym compact.2.2)) in
     let shallow = no_depth given in
     let shallow_words = no_items_depth words in
     let numbers : tree.MembersHaveNumbers (written_as.members_outline rest) = (has_numbers given, (have_numbers words fit.small, tt)) in
@@ -338,14 +367,14 @@ full_move_line_is version text game given orders is plain compact utf8 short =
     ∙ asks
 
 move_line_is : (version : Version) (text game : List ℕ) (written : Bool) (given : List (List ℕ × Direction)) (orders : Orders) → text ≡ compact_text written given game (command.Move orders)
-    → are_plain game ≡ true → IsCompact written given (command.Move orders) → IsUtf8 text → length text ≤ MAX_LINE → line_of version text ≡ line.Command game (command.Move orders)
+    → are_plain game ≡ true → IsCompact version written given (command.Move orders) → IsUtf8 text → length text ≤ MAX_LINE → line_of version text ≡ line.Command game (command.Move orders)
 move_line_is version text game false given orders is plain compact utf8 short = bare_move_line_is version text game given orders is plain compact utf8 short
 move_line_is version text game true given orders is plain compact utf8 short = full_move_line_is version text game given orders is plain compact utf8 short
 
 -- ---- every command
 
 line_of_text : (version : Version) (text game : List ℕ) (written : Bool) (given : List (List ℕ × Direction)) (c : Command) → text ≡ compact_text written given game c
-    → are_plain game ≡ true → IsCompact written given c → IsUtf8 text → length text ≤ MAX_LINE → line_of version text ≡ line.Command game c
+    → are_plain game ≡ true → IsCompact version written given c → IsUtf8 text → length text ≤ MAX_LINE → line_of version text ≡ line.Command game c
 line_of_text version text game written given (command.New new) is plain compact utf8 short = absurd compact
 line_of_text version text game written given (command.Move orders) is plain compact utf8 short = move_line_is version text game written given orders is plain compact utf8 short
 line_of_text version text game written given (command.Turn at) is plain compact utf8 short = turn_line_is version text game written given at is plain compact utf8 short
@@ -356,7 +385,7 @@ line_of_text version text game written given command.Bad is plain compact utf8 s
 
 -- the compact text of a command for a game is read as that command for that game
 pub line_of_compact : (version : Version) (text game order : List ℕ) (written : Bool) (c : Command) → text ≡ line_text game order → are_plain game ≡ true
-    → IsOrderText order written c → length text ≤ MAX_LINE → line_of version text ≡ line.Command game c
+    → IsOrderText version order written c → length text ≤ MAX_LINE → line_of version text ≡ line.Command game c
 line_of_compact version text game order written c begins plain follows short =
     let is : text ≡ compact_text written follows.given game c = begins ∙ ap (line_text game) follows.is in
-    line_of_text version text game written follows.given c is plain follows.compact (subst IsUtf8 (sym is) (compact_is_utf8 game written follows.given c plain follows.compact)) short
+    line_of_text version text game written follows.given c is plain follows.compact (subst IsUtf8 (sym is) (compact_is_utf8 version game written follows.given c plain follows.compact)) short

@@ -1,5 +1,5 @@
 -- The parts at the start of a line.
-use Rattle.std.proofs.Common.{◌≡◌, ℕ, suc, ◌+◌, ◌<◌, ◌≤◌, ◌^◌, ◌⊎◌, inl, inr, Bool, true, false, not, ◌&&◌, cond, List, [], ◌∷◌, ◌++◌, length, take, drop, get_or, codes, decimal, Some, None, Option, Result, Ok, OkIff, refl, sym, ap, ap₂, subst, ◌∙◌, arith, append_assoc, take-append-drop}
+use Rattle.std.proofs.Common.{◌≡◌, ℕ, suc, ◌+◌, ◌<◌, ◌≤◌, ◌^◌, inl, inr, Bool, true, false, not, ◌&&◌, cond, List, [], ◌∷◌, ◌++◌, length, take, drop, get_or, decimal, Some, None, Result, Ok, OkIff, refl, sym, ap, ap₂, subst, ◌∙◌, arith, append_assoc, take-append-drop}
 use Rattle.std.specs.Char.{is_ascii_digit}
 use Rattle.std.specs.List.{list_all, position, position_or_len}
 use Rattle.std.specs.Str.{all_ascii_digits, bytes_eq}
@@ -11,10 +11,11 @@ use Rattle.std.proofs.lemmas.Slice.Eq.{bytes_eq-Decides}
 use Rattle.std.proofs.lemmas.Str.Parse.{IsNumeralModel, numerals_by_value, tells_all_ascii_digits, parse_digits}
 use Rattle.serde_json.specs.Written.{comma_if}
 use Rattle.bs_board.specs.declared.boards.point.Direction.{Direction}
-use Rattle.bs_board.specs.declared.boards.point.Direction.TheVariants.{Up, Down, Left, Right}
-use Rattle.bs_board.specs.Texts.{is_same_text}
-use Rattle.bs_json.specs.inner.Compact.{is_plain, are_plain, are_plain_moves, direction_name, move_text, moves_text, words_text}
-use Rattle.bs_json.specs.Moves.{direction_named}
+use Rattle.bs_board.specs.declared.boards.point.Point.{Point}
+use Rattle.bs_json.specs.inner.Maps.{cells_text, is_near_cell, place_text}
+use Rattle.bs_board.specs.declared.commands.command.Command.{Command}
+use Rattle.bs_board.specs.declared.plans.version.Version.{Version}
+use Rattle.bs_json.specs.inner.Compact.{IsCompact, IsOrderText, is_plain, are_plain, are_plain_moves, direction_name, move_text, moves_text, order_text, words_text}
 
 pub behind_prefix : (line text rest : List ℕ) → bytes_eq (take (length text) line) text ≡ true → rest ≡ drop (length text) line → line ≡ text ++ rest
 behind_prefix line text rest same is =
@@ -90,6 +91,31 @@ pub one_word_more : (line left rest words : List ℕ) (word : ℕ) → line ≡ 
     → line ≡ words_text false (words ++ word ∷ []) ++ rest
 one_word_more line left rest words word begins next = begins ∙ ap (λ t. words_text false words ++ t) next ∙ more_words false words word rest
 
+longer_cells : (later : Bool) (first : Point) (xs ys front back : List ℕ) → xs ++ front ≡ ys ++ back
+    → (comma_if later ++ ((123 ∷ place_text first) ++ xs)) ++ front ≡ (comma_if later ++ ((123 ∷ place_text first) ++ ys)) ++ back
+longer_cells later first xs ys front back same =
+    append_assoc (comma_if later) ((123 ∷ place_text first) ++ xs) front
+    ∙ ap (λ t. comma_if later ++ t) (append_assoc (123 ∷ place_text first) xs front ∙ ap (λ t. (123 ∷ place_text first) ++ t) same ∙ sym (append_assoc (123 ∷ place_text first) ys back))
+    ∙ sym (append_assoc (comma_if later) ((123 ∷ place_text first) ++ ys) back)
+
+regroup_last : (comma cell rest : List ℕ) → comma ++ (cell ++ rest) ≡ (comma ++ (cell ++ [])) ++ rest
+regroup_last comma cell rest = simp append_assoc
+
+more_cells : (later : Bool) (cells : List Point) (cell : Point) (rest : List ℕ)
+    → cells_text later cells ++ (comma_if (cond later true (are_some cells)) ++ ((123 ∷ place_text cell) ++ rest)) ≡ cells_text later (cells ++ cell ∷ []) ++ rest
+more_cells true [] cell rest = regroup_last (comma_if true) (123 ∷ place_text cell) rest
+more_cells false [] cell rest = regroup_last (comma_if false) (123 ∷ place_text cell) rest
+more_cells true (first ∷ cells) cell rest = longer_cells true first (cells_text true cells) (cells_text true (cells ++ cell ∷ [])) _ rest (more_cells true cells cell rest)
+more_cells false (first ∷ cells) cell rest = longer_cells false first (cells_text true cells) (cells_text true (cells ++ cell ∷ [])) _ rest (more_cells true cells cell rest)
+
+-- one more cell
+pub one_cell_more : (line left rest : List ℕ) (cells : List Point) (cell : Point) → line ≡ cells_text false cells ++ left
+    → left ≡ comma_if (are_some cells) ++ ((123 ∷ place_text cell) ++ rest) → line ≡ cells_text false (cells ++ cell ∷ []) ++ rest
+one_cell_more line left rest cells cell begins next = begins ∙ ap (λ t. cells_text false cells ++ t) next ∙ more_cells false cells cell rest
+
+pub near_with_one : (cells : List Point) (cell : Point) → list_all is_near_cell cells ≡ true → is_near_cell cell ≡ true → list_all is_near_cell (cells ++ cell ∷ []) ≡ true
+near_with_one cells cell near one = list_all-append is_near_cell cells (cell ∷ []) ∙ rw (near, one) refl
+
 pub some_with_one : {A : Type 0} (xs : List A) (x : A) → true ≡ are_some (xs ++ x ∷ [])
 some_with_one [] x = refl
 some_with_one (y ∷ xs) x = refl
@@ -97,6 +123,10 @@ some_with_one (y ∷ xs) x = refl
 pub plain_with_one : (moves : List (List ℕ × Direction)) (move : List ℕ × Direction) → are_plain_moves moves ≡ true → are_plain move.0 ≡ true
     → are_plain_moves (moves ++ move ∷ []) ≡ true
 plain_with_one moves move plain one = list_all-append (λ m. are_plain m.0) moves (move ∷ []) ∙ rw (plain, one) refl
+
+-- a command without moves, in a file of any version
+pub order_follows : (version : Version) (order : List ℕ) (c : Command) → order ≡ order_text false [] c → ((v : Version) → IsCompact v false [] c) → IsOrderText version order false c
+order_follows version order c is compact = record { given = []; is = is; compact = compact version }
 
 all_digits : (text : List ℕ) → list_all is_ascii_digit text ≡ all_ascii_digits text
 all_digits [] = refl

@@ -2,6 +2,7 @@ pub mod Ascending
 pub mod CellTexts
 pub mod CompactBytes
 pub mod CompactLines
+pub mod CompactMaps
 pub mod CutTexts
 pub mod Floats
 pub mod LineBounds

@@ -4,17 +4,18 @@ ghost use Rattle.std.specs.Prelude.{◌≡◌, ◌≤◌, [], ◌∷◌, ◌++�
 ghost use Rattle.std.specs.Char.{is_ascii_digit};
 ghost use Rattle.std.specs.List.{list_all, position};
 ghost use Rattle.serde_json.specs.Written.{comma_if};
-ghost use Rattle.bs_board.specs.commands.Orders.{AreFitWords};
-ghost use Rattle.bs_json.specs.inner.Compact.{is_plain, are_plain, are_plain_moves, direction_name, move_text, moves_text, words_text, tail_text, order_text, IsCompact, IsMoveText, IsOrderText, MayLeaveOut};
+ghost use Rattle.bs_board.specs.commands.Orders.{AreFitWords, is_ascending, orders_of};
+ghost use Rattle.bs_json.specs.inner.Compact.{is_plain, are_plain, are_plain_moves, direction_name, move_text, moves_text, words_text, tail_text, order_text, IsCompact, IsFitTail, IsMoveText, IsOrderText};
 ghost use Rattle.bs_board.specs.declared.plans.version.Version.{Version as AnyVersion};
 ghost use Rattle.bs_json.specs.Line.{line_of};
 ghost use Rattle.bs_json.specs.declared.limits.TheConstants.{MAX_LINE};
 
 use crate::line::Line;
+use crate::maps::parse_map;
 use crate::name::Name;
 use crate::ordered_moves::in_order;
 use bs_board::limits::{LAST_TURN, MOST_WORDS};
-use bs_board::{Command, Direction, Id, Move, Moves, TurnNumber, Words};
+use bs_board::{Cells, Command, Direction, Id, Move, Moves, TurnNumber, Version, Words};
 use std::alloc::{AllocError, Global};
 use std::str;
 
@@ -27,7 +28,7 @@ pub(crate) fn is_plain(byte: u8) -> bool
 
 /// Strips the text from the start of the line. `None` if the line does not start with it.
 #[tactic(auto, using(crate::proofs::CutTexts::behind_prefix))]
-fn strip_prefix<'l>(line: &'l [u8], text: &[u8]) -> Option<&'l [u8]>
+pub(crate) fn strip_prefix<'l>(line: &'l [u8], text: &[u8]) -> Option<&'l [u8]>
     ensures { IfSome result (λ rest. line.now ≡ text.now ++ rest.now) }
 {
     match line.strip_prefix(text) {
@@ -151,7 +152,7 @@ fn number_in(digits: &[u8]) -> Option<u32>
 }
 
 /// Parses the number at the start of the line.
-fn split_number<'l>(line: &'l [u8]) -> Option<(u32, &'l [u8])>
+pub(crate) fn split_number<'l>(line: &'l [u8]) -> Option<(u32, &'l [u8])>
     ensures { IfSome result (λ found. line.now ≡ decimal found.0 ++ found.1.now) }
 {
     let end = line.iter().position(|byte| !byte.is_ascii_digit())?;
@@ -159,7 +160,7 @@ fn split_number<'l>(line: &'l [u8]) -> Option<(u32, &'l [u8])>
     Some((number_in(digits)?, rest))
 }
 
-fn is_exactly(line: &[u8], text: &[u8]) -> bool
+pub(crate) fn is_exactly(line: &[u8], text: &[u8]) -> bool
     ensures { result ≡ true → line.now ≡ text.now }
 {
     line == text
@@ -212,19 +213,12 @@ fn parse_turn(line: &[u8]) -> Option<TurnNumber>
     TurnNumber::new(number as u16)
 }
 
-/// Parses what follows the moves of a `move` line. Returns the words, and whether they are written:
-/// a line without words may leave them out.
-fn parse_tail(alloc: Global, line: &[u8]) -> Result<Option<(Words, bool)>, AllocError>
-    ensures text { IfOk result (λ o. IfSome o (λ found. line.now ≡ tail_text found.1 found.0)) }
-    ensures fit { IfOk result (λ o. IfSome o (λ found. AreFitWords found.0 × MayLeaveOut found.1 found.0)) }
+/// Parses the words of a `move` line from the first one on, up to the end of the line.
+fn parse_words(alloc: Global, line: &[u8]) -> Result<Option<Words>, AllocError>
+    ensures text { IfOk result (λ o. IfSome o (λ words. line.now ≡ words_text false words ++ codes "]}")) }
+    ensures fit { IfOk result (λ o. IfSome o AreFitWords) }
 {
-    if is_exactly(line, b"}") {
-        return Ok(Some((Words::from_vec(Vec::new(alloc)), false)));
-    }
-    let Some(list) = strip_prefix(line, b",\"words\":[") else {
-        return Ok(None);
-    };
-    let Some((words, rest)) = split_words(alloc, list)? else {
+    let Some((words, rest)) = split_words(alloc, line)? else {
         return Ok(None);
     };
     if !is_exactly(rest, b"}") || words.len() > MOST_WORDS {
@@ -232,27 +226,65 @@ fn parse_tail(alloc: Global, line: &[u8]) -> Result<Option<(Words, bool)>, Alloc
     }
     let words = Words::from_vec(words);
     let _small = words.as_slice();
-    Ok(Some((words, true)))
+    Ok(Some(words))
+}
+
+/// The move that gives these directions and a map, and has no words.
+fn map_move(alloc: Global, moves: Moves, given: (Option<Cells>, Option<Cells>)) -> Move
+    requires { is_ascending moves ≡ true }
+    ensures { result ≡ record (orders_of moves []) { hazards = given.0; food = given.1 } }
+{
+    let (hazards, food) = given;
+    Move::new(moves, Words::from_vec(Vec::new(alloc))).with_map(hazards, food)
+}
+
+/// Parses what follows the moves of a `move` line: words, or hazards and food. Returns the move,
+/// and whether its words are written: a line without words may leave them out.
+fn parse_tail(
+    alloc: Global,
+    version: Version,
+    moves: Moves,
+    line: &[u8],
+) -> Result<Option<(Move, bool)>, AllocError>
+    requires { is_ascending moves ≡ true }
+    ensures text { IfOk result (λ o. IfSome o (λ found. line.now ≡ tail_text found.1 found.0)) }
+    ensures moves { IfOk result (λ o. IfSome o (λ found. found.0.moves ≡ moves)) }
+    ensures fit { IfOk result (λ o. IfSome o (λ found. IsFitTail version found.1 found.0)) }
+{
+    if is_exactly(line, b"}") {
+        return Ok(Some((map_move(alloc, moves, (None, None)), false)));
+    }
+    if let Some(list) = strip_prefix(line, b",\"words\":[") {
+        return Ok(match parse_words(alloc, list)? {
+            Some(words) => Some((Move::new(moves, words), true)),
+            None => None,
+        });
+    }
+    Ok(match parse_map(alloc, version, line)? {
+        Some(given) => Some((map_move(alloc, moves, given), false)),
+        None => None,
+    })
 }
 
 /// Parses a `move` from its first id on. Also returns whether its words are written.
-fn parse_move(alloc: Global, line: &[u8]) -> Result<Option<(Move, bool)>, AllocError>
-    ensures { IfOk result (λ o. IfSome o (λ found. IsMoveText line.now found.1 found.0)) }
+fn parse_move(
+    alloc: Global,
+    version: Version,
+    line: &[u8],
+) -> Result<Option<(Move, bool)>, AllocError>
+    ensures { IfOk result (λ o. IfSome o (λ found. IsMoveText version line.now found.1 found.0)) }
 {
     let Some((given, rest)) = split_moves(alloc, line)? else {
         return Ok(None);
     };
     let moves = in_order(alloc, given)?;
-    let Some((words, written)) = parse_tail(alloc, rest)? else {
-        return Ok(None);
-    };
-    Ok(Some((Move::new(moves, words), written)))
+    parse_tail(alloc, version, moves, rest)
 }
 
 /// Parses a command that has no members.
 fn parse_bare_order(order: &[u8]) -> Option<Command>
     ensures text { IfSome result (λ command. order.now ≡ order_text false [] command) }
-    ensures compact { IfSome result (IsCompact false []) }
+    ensures compact { IfSome result (λ command. (version : AnyVersion) → IsCompact version false [] command) }
 {
     if is_exactly(order, b"show\"}") {
         Some(Command::Show)
@@ -268,7 +300,7 @@ fn parse_bare_order(order: &[u8]) -> Option<Command>
 /// Parses a command without words, from its name on.
 fn parse_short_order(order: &[u8]) -> Option<Command>
     ensures text { IfSome result (λ command. order.now ≡ order_text false [] command) }
-    ensures compact { IfSome result (IsCompact false []) }
+    ensures compact { IfSome result (λ command. (version : AnyVersion) → IsCompact version false [] command) }
 {
     match strip_prefix(order, b"turn\",\"at\":") {
         Some(at) => Some(Command::Turn(parse_turn(at)?)),
@@ -277,11 +309,16 @@ fn parse_short_order(order: &[u8]) -> Option<Command>
 }
 
 /// Parses a command from its name on. Also returns whether its words are written.
-fn parse_order(alloc: Global, order: &[u8]) -> Result<Option<(Command, bool)>, AllocError>
-    ensures { IfOk result (λ o. IfSome o (λ found. IsOrderText order.now found.1 found.0)) }
+#[tactic(auto, using(crate::proofs::CutTexts::order_follows))]
+fn parse_order(
+    alloc: Global,
+    version: Version,
+    order: &[u8],
+) -> Result<Option<(Command, bool)>, AllocError>
+    ensures { IfOk result (λ o. IfSome o (λ found. IsOrderText version order.now found.1 found.0)) }
 {
     if let Some(moves) = strip_prefix(order, b"move\",\"moves\":{") {
-        return Ok(match parse_move(alloc, moves)? {
+        return Ok(match parse_move(alloc, version, moves)? {
             Some((orders, written)) => Some((Command::Move(orders), written)),
             None => None,
         });
@@ -302,21 +339,22 @@ fn split_game<'l>(line: &'l [u8]) -> Option<(&'l [u8], &'l [u8])>
     Some((game, strip_prefix(rest, b",\"do\":\"")?))
 }
 
-/// Parses a line in its compact form, in a file of any version; `None` for any other line. The name
+/// Parses a line in its compact form, in a file of that version; `None` for any other line. The name
 /// of its game is not copied.
 #[tactic(auto, using(crate::proofs::CompactLines::line_of_compact))]
 #[inline(always)]
 pub(crate) fn compact_line<'l>(
     alloc: Global,
+    version: Version,
     line: &'l [u8],
 ) -> Result<Option<Line<'l>>, AllocError>
     requires { length line.now ≤ MAX_LINE }
-    ensures { IfOk result (λ found. IfSome found (λ l. (version : AnyVersion) → l ≡ line_of version line.now)) }
+    ensures { IfOk result (λ found. IfSome found (λ l. l ≡ line_of version line.now)) }
 {
     let Some((name, order)) = split_game(line) else {
         return Ok(None);
     };
-    let Some((command, _written)) = parse_order(alloc, order)? else {
+    let Some((command, _written)) = parse_order(alloc, version, order)? else {
         return Ok(None);
     };
     let game = Name::lent(name);

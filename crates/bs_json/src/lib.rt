@@ -9,6 +9,7 @@ mod compact;
 mod limits;
 pub mod line;
 mod line_bounds;
+mod maps;
 mod minified;
 mod moves;
 pub mod name;

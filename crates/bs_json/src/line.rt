@@ -154,13 +154,13 @@ pub fn read_line<'l>(
     if line.len() > MAX_LINE {
         return Ok(Line::Stray(Stray::Long));
     }
-    if let Some(found) = compact_line(alloc, line)? {
+    if let Some(found) = compact_line(alloc, version, line)? {
         return Ok(found);
     }
     if is_blank(line) {
         return Ok(Line::Blank);
     }
-    if let Some(found) = spaced_line(alloc, line)? {
+    if let Some(found) = spaced_line(alloc, version, line)? {
         return Ok(found);
     }
     match parsed(alloc, line)? {

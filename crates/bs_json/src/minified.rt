@@ -3,7 +3,6 @@
 ghost use Rattle.std.specs.Prelude.{◌≡◌, ◌≤◌, [], ◌++◌, false, length, option_map, IfOk, IfSome, OnOk};
 ghost use Rattle.std.specs.List.{list_all};
 ghost use Rattle.json.specs.Lex.{class};
-ghost use Rattle.bs_board.specs.declared.plans.version.Version.{Version as AnyVersion};
 ghost use Rattle.bs_json.specs.inner.Minified.{before_rest, behind_first_digit, behind_digit, behind_plain, is_kept, minified, next_place};
 ghost use Rattle.bs_json.specs.declared.minified.Place.TheVariants as place;
 ghost use Rattle.bs_json.specs.declared.limits.TheConstants.{MAX_LINE};
@@ -11,6 +10,7 @@ ghost use Rattle.bs_json.specs.Line.{is_space, line_of};
 
 use crate::compact::{compact_line, is_plain, owned_line};
 use crate::line::{Line, is_blank, is_space};
+use bs_board::Version;
 use memchr::memchr3;
 use std::alloc::{AllocError, Global};
 
@@ -177,10 +177,14 @@ fn seems_spaced(line: &[u8]) -> bool {
 
 /// Parses a line that is compact but for the white space between its tokens; `None` for any other
 /// line.
-pub(crate) fn spaced_line<'l>(alloc: Global, line: &'l [u8]) -> Result<Option<Line<'l>>, AllocError>
+pub(crate) fn spaced_line<'l>(
+    alloc: Global,
+    version: Version,
+    line: &'l [u8],
+) -> Result<Option<Line<'l>>, AllocError>
     requires fits { length line.now ≤ MAX_LINE }
     requires some { list_all is_space line.now ≡ false }
-    ensures { IfOk result (λ found. IfSome found (λ l. (version : AnyVersion) → l ≡ line_of version line.now)) }
+    ensures { IfOk result (λ found. IfSome found (λ l. l ≡ line_of version line.now)) }
 {
     if !seems_spaced(line) {
         return Ok(None);
@@ -194,7 +198,7 @@ pub(crate) fn spaced_line<'l>(alloc: Global, line: &'l [u8]) -> Result<Option<Li
     if short.len() >= line.len() || is_blank(short.as_slice()) {
         return Ok(None);
     }
-    let Some(lent) = compact_line(alloc, short.as_slice())? else {
+    let Some(lent) = compact_line(alloc, version, short.as_slice())? else {
         return Ok(None);
     };
     match owned_line(alloc, lent)? {
