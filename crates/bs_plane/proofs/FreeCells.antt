@@ -1,18 +1,19 @@
 -- The free cells of a board, by its plane.
-use Rattle.std.proofs.Common.{◌≡◌, ℕ, zero, suc, ◌+◌, ◌-◌, ◌*◌, ◌/◌, ◌%◌, ◌<◌, true, cond, List, [], ◌∷◌, ◌++◌, length, take, map, get_or, count_by, refl, sym, ap, ◌∙◌, arith, inl, inr, length-append}
+use Rattle.std.proofs.Common.{◌≡◌, ℕ, zero, suc, ◌+◌, ◌-◌, ◌*◌, ◌/◌, ◌%◌, ◌<◌, ◌≤◌, true, cond, List, [], ◌∷◌, ◌++◌, length, take, drop, map, get_or, count_by, refl, sym, ap, ◌∙◌, arith, inl, inr, length-append}
 use Rattle.std.specs.List.{filter, flat_map, range_with_len}
 use Rattle.std.proofs.Math.Nat.{mod-lt, div-lt_iff_lt-mul}
 use Rattle.std.proofs.lemmas.Nat.{div-add-mod'}
 use Rattle.std.proofs.lemmas.Bool.{cases_Bool}
-use Rattle.std.proofs.lemmas.List.{ext_get_or, get_or-map, get_or_append_left, get_or-append-add, length-map}
-use Rattle.std.proofs.lemmas.List.Sums.{sum_by-cons}
+use Rattle.std.proofs.lemmas.List.{append_assoc, ext_get_or, get_or-map, get_or_append_left, get_or-append-add, length-map, take-append-drop}
+use Rattle.std.proofs.Math.Seq.{take-append-add}
+use Rattle.std.proofs.lemmas.List.Sums.{sum_by-append, sum_by-cons, sum_by-take-drop}
 use Rattle.std.proofs.lemmas.List.FromFn.{get_or-map-range_with_len, length-map-range_with_len}
 use Rattle.bs_board.specs.declared.boards.point.Point.{Point}
 use Rattle.bs_board.specs.boards.Cell.{origin}
 use Rattle.bs_food.specs.Free.{all_cells, point_at, row_of_cells}
 use Rattle.bs_plane.specs.declared.cell.Cell.{Cell}
 use Rattle.bs_plane.specs.Plane.{HasCells, is_free, nothing}
-use Rattle.bs_plane.specs.inner.Food.{IsFreeOf}
+use Rattle.bs_plane.specs.inner.Food.{FindsFree, IsFreeOf}
 
 row_length : (width y : ℕ) → length (row_of_cells width y) ≡ width
 row_length width y = length-map-range_with_len (λ c. point_at c y) 0 width
@@ -120,3 +121,46 @@ free_found on (p ∷ cells) number (suc place) d is =
           let same : 0 + count_by is_free (take place (map on cells)) ≡ number = rw taken at before in
           rw taken (free_found on cells number place d (record { within = omega arith; free = is.free; before = omega arith }))
     ]
+
+-- ---- the free cells of a chunk and of the cells after it
+
+pub chunk_and_rest : (n : ℕ) (cells : List Cell) → count_by is_free (take n cells) + count_by is_free (drop n cells) ≡ count_by is_free cells
+chunk_and_rest n cells = sum_by-take-drop (λ k. cond {A = ℕ} (is_free k) 1 0) cells n
+
+both_counted : (xs ys : List Cell) → count_by is_free (xs ++ ys) ≡ count_by is_free xs + count_by is_free ys
+both_counted xs ys = sum_by-append (λ k. cond {A = ℕ} (is_free k) 1 0) xs ys
+
+-- the last of the cells, and the number there of the free cell of that number
+pub record IsRest (cells : List Cell) (number : ℕ) (rest : List Cell) (left : ℕ) : Type 0 where
+  pub before : List Cell
+  pub is : cells ≡ before ++ rest
+  pub counted : number ≡ count_by is_free before + left
+
+pub rest_after : (cells : List Cell) (number : ℕ) (rest : List Cell) (left n free : ℕ) → free ≡ count_by is_free (take n rest) → free ≤ left
+    → IsRest cells number rest left → IsRest cells number (drop n rest) (left - free)
+rest_after cells number rest left n free counts most r =
+    let both = both_counted r.before (take n rest) in
+    let counted = r.counted in
+    record {
+      before = r.before ++ take n rest;
+      is = r.is ∙ ap (λ l. r.before ++ l) (sym (take-append-drop n rest)) ∙ sym (append_assoc r.before (take n rest) (drop n rest));
+      counted = omega arith;
+    }
+
+pub found_in_rest : (cells : List Cell) (number : ℕ) (rest : List Cell) (left place : ℕ) → IsRest cells number rest left → FindsFree rest left place
+    → FindsFree cells number (length cells - length rest + place)
+found_in_rest cells number rest left place r finds some =
+    let both = ap (count_by is_free) r.is ∙ both_counted r.before rest in
+    let counted = r.counted in
+    let at = finds (omega arith) in
+    let within = at.within in
+    let long = ap length r.is ∙ length-append r.before rest in
+    let start : length cells - length rest + place ≡ length r.before + place = omega arith in
+    record {
+      within = omega arith;
+      free = rw start (ap (λ l. is_free (get_or l (length r.before + place) nothing)) r.is ∙ ap is_free (get_or-append-add r.before rest place nothing) ∙ at.free);
+      before =
+          rw start
+          (ap (λ l. count_by is_free (take (length r.before + place) l)) r.is ∙ ap (count_by is_free) (take-append-add r.before rest place)
+          ∙ both_counted r.before (take place rest) ∙ ap (λ n. count_by is_free r.before + n) at.before ∙ sym r.counted);
+    }

@@ -1,6 +1,6 @@
 //! The food after a turn.
 
-ghost use Rattle.std.specs.Prelude.{◌≡◌, ◌<◌, ◌+◌, ◌*◌, IsTrue, IfOk, IfSome, count_by};
+ghost use Rattle.std.specs.Prelude.{◌≡◌, ◌≤◌, ◌<◌, ◌+◌, ◌*◌, IsTrue, IfOk, IfSome, count_by, length};
 ghost use Rattle.bs_board.specs.declared.boards.board.Board.{Board as AnyBoard};
 ghost use Rattle.bs_food.specs.Free.{point_at};
 ghost use Rattle.bs_food.specs.Spawning.{spawned, with_food_by_chance, with_one_food};
@@ -13,6 +13,9 @@ use crate::plane::Plane;
 use bs_board::Point;
 use bs_board::limits::MOST_CHANCE;
 use std::alloc::AllocError;
+
+/// The number of cells whose free ones are counted at once.
+const CHUNK: usize = 32;
 
 /// Removes the food under these heads from the plane.
 pub fn remove_eaten(plane: &mut Plane, heads: &[Point]) -> bool
@@ -65,16 +68,36 @@ pub fn keep_food(plane: &Plane, food: &[u8], into: &mut Vec<u8>) -> Result<bool,
     Ok(true)
 }
 
+/// The number of free cells of a chunk, in code without branches.
+#[inline(never)]
+fn free_in(chunk: &[Cell; CHUNK]) -> usize
+    ensures { result ≡ count_by is_free chunk.now }
+{
+    let mut free = 0usize;
+    for cell in chunk {
+        free += usize::from(cell.is_free());
+    }
+    free
+}
+
 /// The number of free cells.
 fn count_free(cells: &[Cell]) -> usize
     ensures { result ≡ count_by is_free cells.now }
 {
-    cells.iter().filter(|cell| cell.is_free()).count()
+    let mut rest = cells;
+    let mut free = 0usize;
+    while let Some((chunk, more)) = rest.split_first_chunk::<CHUNK>() {
+        free += free_in(chunk);
+        rest = more;
+    }
+    free + rest.iter().filter(|cell| cell.is_free()).count()
 }
 
-/// The place of the free cell of that number; the number of the cells if there is none.
-fn find_free(cells: &[Cell], number: usize) -> usize
-    ensures { FindsFree cells.now number result }
+/// The place of the free cell of that number, cell by cell; the number of the cells if there is
+/// none.
+fn find_in(cells: &[Cell], number: usize) -> usize
+    ensures within { result ≤ length cells.now }
+    ensures place { FindsFree cells.now number result }
 {
     let mut left = number;
     for (place, cell) in cells.iter().enumerate() {
@@ -86,6 +109,23 @@ fn find_free(cells: &[Cell], number: usize) -> usize
         }
     }
     cells.len()
+}
+
+/// The place of the free cell of that number; the number of the cells if there is none.
+fn find_free(cells: &[Cell], number: usize) -> usize
+    ensures { FindsFree cells.now number result }
+{
+    let mut rest = cells;
+    let mut left = number;
+    while let Some((chunk, more)) = rest.split_first_chunk::<CHUNK>() {
+        let free = free_in(chunk);
+        if left < free {
+            break;
+        }
+        left -= free;
+        rest = more;
+    }
+    cells.len() - rest.len() + find_in(rest, left)
 }
 
 /// The column and the row of the cell with that index.

@@ -1,7 +1,10 @@
-use Rattle.std.proofs.Common.{◌≡◌, ◌+◌, count_by, take}
-use Rattle.bs_plane.specs.Plane.{is_free}
+use Rattle.std.proofs.Common.{length}
+use Rattle.bs_plane.proofs.FreeCells.{IsRest}
 use Rattle.bs_plane.proofs.food.find_free.Given as goal
 
--- the free cells so far and those that are left
-abbrev pub invariant-loop-place : goal.invariant-loop-place
-invariant-loop-place l = l.left + count_by is_free (take l.place l.cells) ≡ l.number
+-- what is left of the cells, and the number there
+abbrev pub invariant-loop-chunk : goal.invariant-loop-chunk
+invariant-loop-chunk l = IsRest l.cells l.number l.rest l.left
+
+abbrev pub decreases-loop-chunk : goal.decreases-loop-chunk
+decreases-loop-chunk l = length l.rest
