@@ -5,6 +5,7 @@ pub mod CompactLines
 pub mod CompactMaps
 pub mod CutTexts
 pub mod Floats
+pub mod GivenMoves
 pub mod LineBounds
 pub mod Lines
 pub mod MinifiedLines

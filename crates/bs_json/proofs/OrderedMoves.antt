@@ -1,17 +1,21 @@
 -- Moves in the order of their ids.
-use Rattle.std.proofs.Common.{◌≡◌, ℕ, ◌+◌, ◌<◌, List, [], ◌∷◌, ◌++◌, true, false, Bor, length, drop, get_or, refl, sym, ap, ◌∙◌, append_assoc, add-one, drop-cons, Less, Equal, Greater}
+use Rattle.std.proofs.Common.{◌≡◌, ℕ, suc, ◌+◌, ◌-◌, ◌<◌, ◌≤◌, List, [], ◌∷◌, ◌++◌, Bool, true, false, not, cond, Some, None, Bor, length, get_or, slice_set, refl, sym, ap, subst, ◌∙◌, append_assoc, arith, Less, Equal, Greater}
 use Rattle.std.proofs.lemmas.List.{append-nil}
 use Rattle.std.proofs.lemmas.Cmp.{nat_list_cmp_total}
-use Rattle.std.specs.BTreeMap.{insert_entry}
+use Rattle.std.proofs.lemmas.Bool.{and_from, ltb-false, ltb-true}
+use Rattle.std.specs.List.{insert, position, position_or_len}
 use Rattle.std.specs.Cmp.Lexicographic.{slice_cmp}
-use Rattle.std.specs.Ordering.{is_lt, match_ordering, nat_cmp, ordering_reverse}
+use Rattle.std.specs.Ordering.{is_gt, is_lt, match_ordering, nat_cmp, ordering_reverse}
 use Rattle.std.specs.declared.cmp.Ordering.{Ordering}
 use Rattle.bs_board.specs.declared.boards.point.Direction.{Direction}
 use Rattle.bs_board.specs.commands.Orders.{is_ascending}
 use Rattle.bs_board.specs.Texts.{is_text_below}
 use Rattle.bs_board.proofs.Chains.{and_both}
-use Rattle.bs_json.specs.inner.Sorted.{in_order, moves_in, put_move, put_moves}
+use Rattle.bs_json.specs.inner.Sorted.{in_order, is_last, moves_in, put_move, put_moves}
 use Rattle.bs_json.proofs.Ascending.{FirstIsAbove, Given, ascends_after}
+
+abbrev pub Entries : Type 0
+Entries = List (Bor (List ℕ) × Direction)
 
 less_is : (o : Ordering) → is_lt o ≡ true → o ≡ Less
 less_is Less h = refl
@@ -38,15 +42,6 @@ goes_last [] move rest up = refl
 goes_last (first ∷ found) move rest up =
     let above = nat_list_cmp_total.antisymm move.0 first.0 ∙ ap ordering_reverse (is_above first found move rest up) in
     rw (above, goes_last found move rest (tail_ascends first (found ++ move ∷ rest) up)) refl
-
-ascending_from : (found given : Given) → is_ascending (found ++ given) ≡ true → put_moves found given ≡ found ++ given
-ascending_from found [] up = sym (append-nil found)
-ascending_from found (move ∷ given) up =
-    let same = append_assoc found (move ∷ []) given in
-    ap (λ moves. put_moves moves given) (goes_last found move given up) ∙ ascending_from (found ++ move ∷ []) given (ap is_ascending same ∙ up) ∙ same
-
-pub ascending_stay : (given : Given) → is_ascending given ≡ true → given ≡ in_order given
-ascending_stay given up = sym (ascending_from [] given up)
 
 -- ---- what is in order ascends
 
@@ -84,30 +79,131 @@ all_ascend found (move ∷ given) up = all_ascend (put_move found move) given (p
 pub in_order_ascends : (given : Given) → is_ascending (in_order given) ≡ true
 in_order_ascends given = all_ascend [] given refl
 
--- ---- a map by the ids holds them in order
+-- ---- an entry goes to its place
 
-abbrev by_bytes : Bor (List ℕ) → Bor (List ℕ) → Ordering
-by_bytes x y = slice_cmp nat_cmp x.now y.now
+-- behind those below it
+append_ascends : (found : Given) (move : List ℕ × Direction) → is_ascending found ≡ true → is_last move.0 found ≡ true → is_ascending (found ++ move ∷ []) ≡ true
+append_ascends [] move up last = refl
+append_ascends (first ∷ []) move up last = rw last refl
+append_ascends (first ∷ second ∷ rest) move up last =
+    let parts = and_both (is_text_below first.0 second.0) (is_ascending (second ∷ rest)) up in
+    and_from (is_text_below first.0 second.0) (is_ascending ((second ∷ rest) ++ move ∷ [])) parts.0 (append_ascends (second ∷ rest) move parts.1 last)
 
-moves_by : (o : Ordering) (below equal above : List (Bor (List ℕ) × Direction))
-    → moves_in (match_ordering o below equal above) ≡ match_ordering o (moves_in below) (moves_in equal) (moves_in above)
-moves_by Less below equal above = refl
-moves_by Equal below equal above = refl
-moves_by Greater below equal above = refl
+moves_before : (entries : Entries) (id : Bor (List ℕ)) (direction : Direction) → moves_in (entries ++ (id, direction) ∷ []) ≡ moves_in entries ++ (id.now, direction) ∷ []
+moves_before [] id direction = refl
+moves_before (entry ∷ entries) id direction = rw (moves_before entries id direction) refl
 
-pub entry_put : (entries : List (Bor (List ℕ) × Direction)) (id : Bor (List ℕ)) (direction : Direction)
-    → moves_in (insert_entry by_bytes entries id direction) ≡ put_move (moves_in entries) (id.now, direction)
-entry_put [] id direction = refl
-entry_put (first ∷ entries) id direction =
-    moves_by (by_bytes id first.0) _ _ _ ∙ rw (entry_put entries id direction) refl
+pub put_last : (entries : Entries) (id : Bor (List ℕ)) (direction : Direction) → is_ascending (moves_in entries) ≡ true → is_last id.now (moves_in entries) ≡ true
+    → moves_in (entries ++ (id, direction) ∷ []) ≡ put_move (moves_in entries) (id.now, direction)
+put_last entries id direction up last =
+    moves_before entries id direction ∙ sym (goes_last (moves_in entries) (id.now, direction) [] (append_ascends (moves_in entries) (id.now, direction) up last))
 
--- one entry more
-pub next_entry : (entries next : List (Bor (List ℕ) × Direction)) (all : Given) (at : ℕ) (id : Bor (List ℕ)) (item : List ℕ × Direction)
-    → put_moves (moves_in entries) (drop at all) ≡ in_order all → at < length all → item ≡ get_or all at item → id.now ≡ item.0
-    → next ≡ insert_entry by_bytes entries id item.1 → put_moves (moves_in next) (drop (at + 1) all) ≡ in_order all
-next_entry entries next all at id item before short is name put =
-    let here : drop at all ≡ get_or all at item ∷ drop (at + 1) all = rw (add-one, drop-cons all at item) refl in
-    let one : moves_in next ≡ put_move (moves_in entries) item = ap moves_in put ∙ entry_put entries id item.1 ∙ ap (λ text. put_move (moves_in entries) (text, item.1)) name in
-    ap (λ moves. put_moves moves (drop (at + 1) all)) one
-    ∙ sym (ap (put_moves (moves_in entries)) (here ∙ ap (λ first. first ∷ drop (at + 1) all) (sym is)))
-    ∙ before
+pub last_below : (entries : Entries) (id : List ℕ) (none : Bor (List ℕ) × Direction) → 0 < length entries
+    → is_lt (slice_cmp nat_cmp (get_or entries (length entries - 1) none).0.now id) ≡ true → is_last id (moves_in entries) ≡ true
+last_below [] id none some below = refl
+last_below (first ∷ []) id none some below = below
+last_below (first ∷ second ∷ rest) id none some below =
+    let behind : length (first ∷ second ∷ rest) - 1 ≡ suc (length (second ∷ rest) - 1) = omega arith in
+    last_below (second ∷ rest) id none (omega arith) (subst (λ n. is_lt (slice_cmp nat_cmp (get_or (first ∷ second ∷ rest) n none).0.now id) ≡ true) behind below)
+
+-- before the first that is not below it
+abbrev pub stops_at : List ℕ → Bor (List ℕ) × Direction → Bool
+stops_at id entry = not (is_gt (slice_cmp nat_cmp id entry.0.now))
+
+-- that it is put at this place
+abbrev Lands : Entries → Bor (List ℕ) → Direction → Bor (List ℕ) × Direction → Type 0
+Lands entries id direction none =
+    position_or_len (stops_at id.now) entries < length entries
+    → (is_lt (slice_cmp nat_cmp id.now (get_or entries (position_or_len (stops_at id.now) entries) none).0.now) ≡ true
+    → moves_in (insert entries (position_or_len (stops_at id.now) entries) (id, direction)) ≡ put_move (moves_in entries) (id.now, direction))
+
+lands_by : (o : Ordering) (first : Bor (List ℕ) × Direction) (rest : Entries) (id : Bor (List ℕ)) (direction : Direction) (none : Bor (List ℕ) × Direction)
+    → slice_cmp nat_cmp id.now first.0.now ≡ o → Lands rest id direction none → Lands (first ∷ rest) id direction none
+lands_by Less first rest id direction none is later = λ within below. rw is refl
+lands_by Equal first rest id direction none is later = λ within below.
+    let own : is_lt (slice_cmp nat_cmp id.now first.0.now) ≡ true = rw is at below in
+    let wrong : false ≡ true = sym (ap is_lt is) ∙ own in cc
+lands_by Greater first rest id direction none is later = λ within below.
+    let behind : 1 + position_or_len (stops_at id.now) rest ≡ suc (position_or_len (stops_at id.now) rest) = omega arith in
+    let left = rw is at within in
+    let lower = subst (λ n. is_lt (slice_cmp nat_cmp id.now (get_or (first ∷ rest) n none).0.now) ≡ true) behind (rw is at below) in
+    rw is (subst (λ n. moves_in (insert (first ∷ rest) n (id, direction)) ≡ (first.0.now, first.1) ∷ put_move (moves_in rest) (id.now, direction)) (sym behind)
+    (ap (λ moves. (first.0.now, first.1) ∷ moves) (later (omega arith) lower)))
+
+lands : (entries : Entries) (id : Bor (List ℕ)) (direction : Direction) (none : Bor (List ℕ) × Direction) → Lands entries id direction none
+lands [] id direction none = λ within below. refl
+lands (first ∷ rest) id direction none = lands_by (slice_cmp nat_cmp id.now first.0.now) first rest id direction none refl (lands rest id direction none)
+
+-- that it takes the place of an equal one
+abbrev Replaces : Entries → Bor (List ℕ) → Direction → Bor (List ℕ) × Direction → Type 0
+Replaces entries id direction none =
+    position_or_len (stops_at id.now) entries < length entries
+    → (is_lt (slice_cmp nat_cmp id.now (get_or entries (position_or_len (stops_at id.now) entries) none).0.now) ≡ false
+    → moves_in (slice_set entries (position_or_len (stops_at id.now) entries) ((get_or entries (position_or_len (stops_at id.now) entries) none).0, direction))
+    ≡ put_move (moves_in entries) (id.now, direction))
+
+replaces_by : (o : Ordering) (first : Bor (List ℕ) × Direction) (rest : Entries) (id : Bor (List ℕ)) (direction : Direction) (none : Bor (List ℕ) × Direction)
+    → slice_cmp nat_cmp id.now first.0.now ≡ o → Replaces rest id direction none → Replaces (first ∷ rest) id direction none
+replaces_by Less first rest id direction none is later = λ within below.
+    let own : is_lt (slice_cmp nat_cmp id.now first.0.now) ≡ false = rw is at below in
+    let wrong : true ≡ false = sym (ap is_lt is) ∙ own in cc
+replaces_by Equal first rest id direction none is later = λ within below. rw is refl
+replaces_by Greater first rest id direction none is later = λ within below.
+    let behind : 1 + position_or_len (stops_at id.now) rest ≡ suc (position_or_len (stops_at id.now) rest) = omega arith in
+    let left = rw is at within in
+    let lower = subst (λ n. is_lt (slice_cmp nat_cmp id.now (get_or (first ∷ rest) n none).0.now) ≡ false) behind (rw is at below) in
+    rw is (subst (λ n. moves_in (slice_set (first ∷ rest) n ((get_or (first ∷ rest) n none).0, direction)) ≡ (first.0.now, first.1) ∷ put_move (moves_in rest) (id.now, direction)) (sym behind)
+    (ap (λ moves. (first.0.now, first.1) ∷ moves) (later (omega arith) lower)))
+
+replaces : (entries : Entries) (id : Bor (List ℕ)) (direction : Direction) (none : Bor (List ℕ) × Direction) → Replaces entries id direction none
+replaces [] id direction none = λ within below. absurd (omega arith)
+replaces (first ∷ rest) id direction none = replaces_by (slice_cmp nat_cmp id.now first.0.now) first rest id direction none refl (replaces rest id direction none)
+
+-- behind all, if all are below it
+goes_behind_by : (o : Ordering) (first : Bor (List ℕ) × Direction) (rest : Entries) (id : Bor (List ℕ)) (direction : Direction)
+    → slice_cmp nat_cmp id.now first.0.now ≡ o
+    → (length rest ≤ position_or_len (stops_at id.now) rest → moves_in (rest ++ (id, direction) ∷ []) ≡ put_move (moves_in rest) (id.now, direction))
+    → length (first ∷ rest) ≤ position_or_len (stops_at id.now) (first ∷ rest) → moves_in ((first ∷ rest) ++ (id, direction) ∷ []) ≡ put_move (moves_in (first ∷ rest)) (id.now, direction)
+goes_behind_by Less first rest id direction is later all = let wrong = rw is at all in absurd (omega arith)
+goes_behind_by Equal first rest id direction is later all = let wrong = rw is at all in absurd (omega arith)
+goes_behind_by Greater first rest id direction is later all = let left = rw is at all in rw is (ap (λ moves. (first.0.now, first.1) ∷ moves) (later (omega arith)))
+
+goes_behind : (entries : Entries) (id : Bor (List ℕ)) (direction : Direction) → length entries ≤ position_or_len (stops_at id.now) entries
+    → moves_in (entries ++ (id, direction) ∷ []) ≡ put_move (moves_in entries) (id.now, direction)
+goes_behind [] id direction all = refl
+goes_behind (first ∷ rest) id direction all = goes_behind_by (slice_cmp nat_cmp id.now first.0.now) first rest id direction refl (goes_behind rest id direction) all
+
+-- ---- as `place_of` says it
+
+found_by : (b : Bool) (place end : ℕ) → cond b (Some place) None ≡ Some end → (place ≡ end) × (b ≡ true)
+found_by true place end is = (cc, refl)
+found_by false place end is = absurd (cc)
+
+none_by : (b : Bool) (place : ℕ) → cond b (Some place) None ≡ None → b ≡ false
+none_by true place is = absurd (cc)
+none_by false place is = refl
+
+pub lands_at : (entries : Entries) (id : Bor (List ℕ)) (direction : Direction) (at : ℕ) (none : Bor (List ℕ) × Direction) → Some at ≡ position (stops_at id.now) entries
+    → is_lt (slice_cmp nat_cmp id.now (get_or entries at none).0.now) ≡ true → moves_in (insert entries at (id, direction)) ≡ put_move (moves_in entries) (id.now, direction)
+lands_at entries id direction at none is below =
+    let found = found_by _ _ at (sym is) in
+    subst (λ n. is_lt (slice_cmp nat_cmp id.now (get_or entries n none).0.now) ≡ true → moves_in (insert entries n (id, direction)) ≡ put_move (moves_in entries) (id.now, direction))
+    found.0 (lands entries id direction none (ltb-true _ _ found.1)) below
+
+pub replaces_at : (entries : Entries) (id : Bor (List ℕ)) (direction : Direction) (at : ℕ) (none : Bor (List ℕ) × Direction) → Some at ≡ position (stops_at id.now) entries
+    → is_lt (slice_cmp nat_cmp id.now (get_or entries at none).0.now) ≡ false
+    → moves_in (slice_set entries at ((get_or entries at none).0, direction)) ≡ put_move (moves_in entries) (id.now, direction)
+replaces_at entries id direction at none is above =
+    let found = found_by _ _ at (sym is) in
+    subst (λ n. is_lt (slice_cmp nat_cmp id.now (get_or entries n none).0.now) ≡ false
+    → moves_in (slice_set entries n ((get_or entries n none).0, direction)) ≡ put_move (moves_in entries) (id.now, direction))
+    found.0 (replaces entries id direction none (ltb-true _ _ found.1)) above
+
+pub behind_all : (entries : Entries) (id : Bor (List ℕ)) (direction : Direction) → None ≡ position (stops_at id.now) entries
+    → moves_in (entries ++ (id, direction) ∷ []) ≡ put_move (moves_in entries) (id.now, direction)
+behind_all entries id direction is = goes_behind entries id direction (ltb-false _ _ (none_by _ _ (sym is)))
+
+pub is_inside : (entries : Entries) (id : List ℕ) (at : ℕ) → Some at ≡ position (stops_at id) entries → at < length entries
+is_inside entries id at is =
+    let found = found_by _ _ at (sym is) in
+    subst (λ n. n < length entries) found.0 (ltb-true _ _ found.1)

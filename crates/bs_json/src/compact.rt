@@ -5,7 +5,7 @@ ghost use Rattle.std.specs.Char.{is_ascii_digit};
 ghost use Rattle.std.specs.List.{list_all, position};
 ghost use Rattle.serde_json.specs.Written.{comma_if};
 ghost use Rattle.bs_board.specs.commands.Orders.{AreFitWords, is_ascending, orders_of};
-ghost use Rattle.bs_json.specs.inner.Compact.{is_plain, are_plain, are_plain_moves, direction_name, move_text, moves_text, words_text, tail_text, order_text, IsCompact, IsFitTail, IsMoveText, IsOrderText};
+ghost use Rattle.bs_json.specs.inner.Compact.{is_plain, are_plain, are_plain_moves, direction_name, move_text, moves_text, words_text, tail_text, order_text, IsCompact, GivenMoves, IsFitTail, IsMoveText, IsOrderText};
 ghost use Rattle.bs_board.specs.declared.plans.version.Version.{Version as AnyVersion};
 ghost use Rattle.bs_json.specs.Line.{line_of};
 ghost use Rattle.bs_json.specs.declared.limits.TheConstants.{MAX_LINE};
@@ -13,11 +13,14 @@ ghost use Rattle.bs_json.specs.declared.limits.TheConstants.{MAX_LINE};
 use crate::line::Line;
 use crate::maps::parse_map;
 use crate::name::Name;
-use crate::ordered_moves::in_order;
+use crate::ordered_moves::{packed, put};
 use bs_board::limits::{LAST_TURN, MOST_WORDS};
 use bs_board::{Cells, Command, Direction, Id, Move, Moves, TurnNumber, Version, Words};
 use std::alloc::{AllocError, Global};
 use std::str;
+
+/// The number of moves that a line usually has at most.
+const USUAL_MOVES: usize = 8;
 
 /// Whether the byte is printable ASCII and needs no escape in a string.
 pub(crate) fn is_plain(byte: u8) -> bool
@@ -99,24 +102,24 @@ fn split_next_move<'l>(line: &'l [u8], later: bool) -> Option<(&'l [u8], Directi
     }
 }
 
-/// Parses all moves up to the closing brace.
-#[tactic(auto, using(crate::proofs::CutTexts::one_move_more, crate::proofs::CutTexts::some_with_one, crate::proofs::CutTexts::plain_with_one, crate::proofs::CompactBytes::plain_text))]
+/// Parses all moves up to the closing brace. Returns them in the order of their ids, each id once,
+/// with the direction that it has last.
+#[tactic(auto, using(crate::proofs::GivenMoves::no_moves, crate::proofs::GivenMoves::one_more, crate::proofs::GivenMoves::are_plain_in_order, crate::proofs::GivenMoves::ascend_in_order))]
 fn split_moves<'l>(alloc: Global, line: &'l [u8]) -> Result<Option<(Moves, &'l [u8])>, AllocError>
-    ensures text { IfOk result
-        (λ cut. IfSome cut (λ found. line.now ≡ moves_text false found.0 ++ 125 ∷ found.1.now)) }
-    ensures plain { IfOk result (λ cut. IfSome cut (λ found. are_plain_moves found.0 ≡ true)) }
+    ensures text { IfOk result (λ cut. IfSome cut (λ found. GivenMoves line.now found.0 (125 ∷ found.1.now))) }
+    ensures ascending { IfOk result (λ cut. IfSome cut (λ found. is_ascending found.0 ≡ true)) }
 {
-    let mut moves = Moves::new(alloc);
+    let mut moves = Vec::with_capacity(alloc, USUAL_MOVES)?;
     let mut left = line;
     let mut later = false;
     for _turn in 0..line.len() {
         if let Some(rest) = strip_prefix(left, b"}") {
-            return Ok(Some((moves, rest)));
+            return Ok(Some((packed(alloc, moves.as_slice())?, rest)));
         }
         let Some((id, direction, rest)) = split_next_move(left, later) else {
             return Ok(None);
         };
-        moves.push(id, direction)?;
+        put(&mut moves, id, direction)?;
         left = rest;
         later = true;
     }
@@ -274,10 +277,9 @@ fn parse_move(
 ) -> Result<Option<(Move, bool)>, AllocError>
     ensures { IfOk result (λ o. IfSome o (λ found. IsMoveText version line.now found.1 found.0)) }
 {
-    let Some((given, rest)) = split_moves(alloc, line)? else {
+    let Some((moves, rest)) = split_moves(alloc, line)? else {
         return Ok(None);
     };
-    let moves = in_order(alloc, given)?;
     parse_tail(alloc, version, moves, rest)
 }
 

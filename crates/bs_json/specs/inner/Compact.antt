@@ -66,6 +66,13 @@ compact_text written given game command = line_text game (order_text written giv
 abbrev pub are_plain_moves : List (List ℕ × Direction) → Bool
 are_plain_moves = list_all (λ move. are_plain move.0)
 
+-- these moves, in the order of their ids, are written before that text
+pub record GivenMoves (line : List ℕ) (moves : List (List ℕ × Direction)) (left : List ℕ) : Type 0 where
+  pub given : List (List ℕ × Direction)
+  pub is : line ≡ moves_text false given ++ left
+  pub plain : are_plain_moves given ≡ true
+  pub order : moves ≡ in_order given
+
 -- words are left out if there are none, and written by a move that gives no hazards and no food
 abbrev pub IsFitTail : Version → Bool → Orders → Type 0
 IsFitTail version false orders = (orders.words ≡ []) × IsMap version orders.hazards orders.food

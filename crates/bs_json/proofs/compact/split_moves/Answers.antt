@@ -1,18 +1,33 @@
-use Rattle.std.proofs.Common.{◌≡◌, ◌∷◌, ◌++◌, [], ℕ, List, rules, subst}
+use Rattle.std.proofs.Common.{◌≡◌, ◌∷◌, ◌++◌, [], rules}
 use Rattle.serde_json.specs.Written.{comma_if}
-use Rattle.bs_board.specs.declared.boards.point.Direction.{Direction}
 use Rattle.bs_json.specs.inner.Compact.{move_text}
-use Rattle.bs_json.proofs.CutTexts.{one_move_more, plain_with_one, some_with_one}
+use Rattle.bs_json.specs.inner.Sorted.{moves_in, put_move}
+use Rattle.bs_json.proofs.GivenMoves.{are_plain_in_order, ascend_in_order, no_moves, one_more}
 use Rattle.bs_json.proofs.compact.split_moves.Goals as goal
+
+pub loop-turn-init : goal.loop-turn-init
+loop-turn-init c =
+    let none : c.in_ok-moves.moves.items ≡ [] = search rules in
+    rw none (no_moves c.args.line.now)
+
+pub packed-requires : goal.packed-requires
+packed-requires c =
+    let all : c.as_slice.result.now ≡ c.loop-turn.moves.items = search rules in
+    rw all (are_plain_in_order c.args.line.now (moves_in c.loop-turn.moves.items) c.loop-turn.left.now c.loop-turn.invariant.0)
+
+pub returns-in-Some-clause-ascending : goal.returns-in-Some-clause-ascending
+returns-in-Some-clause-ascending c =
+    let all : c.in_ok-packed.field-0 ≡ moves_in c.loop-turn.moves.items = search rules in
+    rw all (ascend_in_order c.args.line.now (moves_in c.loop-turn.moves.items) c.loop-turn.left.now c.loop-turn.invariant.0)
+
+pub put-requires : goal.put-requires
+put-requires c = ascend_in_order c.args.line.now (moves_in c.loop-turn.moves.items) c.loop-turn.left.now c.loop-turn.invariant.0
 
 pub loop-turn-preserved : goal.loop-turn-preserved
 loop-turn-preserved c =
-    let moves = c.loop-turn.moves in
     let cut = c.in-Some-split_next_move in
-    let one : List ℕ × Direction = (cut.id.now, cut.direction) in
-    let all : c.push.new.self ≡ moves ++ one ∷ [] = search rules in
-    let next = subst (λ b. c.loop-turn.left.now ≡ comma_if b ++ (move_text one ++ cut.rest.now)) c.loop-turn.invariant.2 cut.ensures.text in (
-      rw all (one_move_more c.args.line.now c.loop-turn.left.now cut.rest.now moves one c.loop-turn.invariant.0 next),
-      rw all (plain_with_one moves one c.loop-turn.invariant.1 cut.ensures.plain),
-      rw all (some_with_one moves one),
-    )
+    let moves = moves_in c.loop-turn.moves.items in
+    let next : c.loop-turn.left.now ≡ comma_if c.loop-turn.later ++ (move_text (cut.id.now, cut.direction) ++ cut.rest.now) = search rules in
+    let put : moves_in c.put.new.entries.items ≡ put_move moves (cut.id.now, cut.direction) = search rules in
+    one_more c.args.line.now c.loop-turn.left.now cut.rest.now moves (moves_in c.put.new.entries.items) c.loop-turn.later (cut.id.now, cut.direction)
+    c.loop-turn.invariant next cut.ensures.plain put

@@ -1,5 +1,8 @@
-use Rattle.std.proofs.lemmas.Str.{is_utf8-from_IsUtf8}
+use Rattle.std.proofs.Common.{[], rules}
+use Rattle.bs_board.specs.declared.boards.point.Direction.TheVariants.{Up}
+use Rattle.bs_json.proofs.GivenMoves.{plain_at}
 use Rattle.bs_json.proofs.ordered_moves.packed.Goals as goal
 
 pub push-requires : goal.push-requires
-push-requires c = is_utf8-from_IsUtf8 c.as_bytes.result.now c.as_bytes.ensures.utf8
+push-requires c =
+    plain_at c.args.entries.now c.loop-id.id-index (record { ref_ptr = (0, 0); now = [] }, Up) c.loop-id.invariant.1 c.loop-id-test.true
