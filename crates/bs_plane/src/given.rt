@@ -51,7 +51,7 @@ fn give_all(plane: &mut Plane, cells: &[Point], into: &mut Vec<u8>) -> Result<bo
 }
 
 /// Adds the food that the move gives. False if the plane cannot follow.
-pub fn give(
+pub(crate) fn give(
     plane: &mut Plane,
     cells: &Option<Cells>,
     into: &mut Vec<u8>,
