@@ -8,11 +8,11 @@ use crate::boards::{laid, setup};
 use crate::draws::Draws;
 use crate::orders::orders;
 use bs_board::limits::LAST_TURN;
-use bs_board::{Board, Move, Record, is_legal};
+use bs_board::{Board, Move, Point, Record, is_legal};
 use bs_modes::{over, start};
 use bs_plane::Stepper;
 use bs_rules::turn;
-use bs_samples::{holds, same};
+use bs_samples::{Parts, holds, same, solo};
 use std::alloc::{AllocError, Global};
 use std::marker::Model;
 use std::test::Fail;
@@ -154,4 +154,84 @@ fn laid_boards_over_a_plane_are_as_decoded(rt: HostRuntime) -> Result<(), Fail> 
         counts.stepped = counts.stepped.wrapping_add(u32::from(stepped));
     }
     holds("many boards are over the plane", counts.stepped > 300)
+}
+
+/// A solo board of nine by nine with food on every cell but those of the snake, and with a minimum
+/// of more food than that.
+fn full(alloc: Global, parts: Parts) -> Result<Board, AllocError> {
+    let mut board = solo(alloc, 9, 5, 50, parts)?;
+    for y in 0..9 {
+        for x in 0..9 {
+            if !parts.contains(&(x, y)) {
+                board.food.push(Point { x, y })?;
+            }
+        }
+    }
+    board.min_food = 200;
+    Ok(board)
+}
+
+/// The board after a move straight on with that word, played over the plane.
+fn after(alloc: Global, board: Board, word: u32) -> Result<Board, Fail> {
+    holds("a legal board", is_legal(&board))?;
+    let words = bs_samples::orders(alloc, &[], &[word])?;
+    let (game, stepped) = play(alloc, begun(alloc, board)?, &words)?;
+    holds("over the plane", stepped)?;
+    Ok(game.board)
+}
+
+/// The cells of a board are counted 32 at once, row by row from the bottom left. A tail leaves the
+/// only free cell of the board: the last of the first 32, the next one, the last of the second 32,
+/// the next one, and the last of the board.
+#[test]
+fn food_on_the_only_free_cell(rt: HostRuntime) -> Result<(), Fail> {
+    let alloc = rt.alloc();
+    let bodies = [
+        [(6, 3), (5, 3), (4, 3)],
+        [(7, 3), (6, 3), (5, 3)],
+        [(2, 7), (1, 7), (0, 7)],
+        [(3, 7), (2, 7), (1, 7)],
+        [(6, 8), (7, 8), (8, 8)],
+    ];
+    for parts in &bodies {
+        let board = after(alloc, full(alloc, parts)?, 12_345)?;
+        let [_, _, (x, y)] = *parts;
+        same("the food", board.food.len(), 78)?;
+        let last = board.food.as_slice().last().copied();
+        same("the cell", last, Some(Point { x, y }))?;
+    }
+    Ok(())
+}
+
+/// The tail is two parts on one cell, and stays there.
+#[test]
+fn no_food_where_no_cell_is_free(rt: HostRuntime) -> Result<(), Fail> {
+    let alloc = rt.alloc();
+    let board = full(alloc, &[(6, 3), (5, 3), (4, 3), (4, 3)])?;
+    let board = after(alloc, board, 12_345)?;
+    same("the food", board.food.len(), 77)
+}
+
+/// A snake on the top row leaves 78 free cells, of which those below it have their index as number.
+#[test]
+fn food_on_the_free_cell_of_the_number(rt: HostRuntime) -> Result<(), Fail> {
+    let alloc = rt.alloc();
+    let places = [
+        (0, (0, 0)),
+        (31, (4, 3)),
+        (32, (5, 3)),
+        (63, (0, 7)),
+        (64, (1, 7)),
+        (72, (0, 8)),
+        (77, (8, 8)),
+        (78, (0, 0)),
+        (109, (4, 3)),
+    ];
+    for &(word, (x, y)) in &places {
+        let mut board = solo(alloc, 9, 5, 50, &[(3, 8), (2, 8), (1, 8)])?;
+        board.min_food = 1;
+        let board = after(alloc, board, word)?;
+        same("the food", board.food.as_slice(), &[Point { x, y }])?;
+    }
+    Ok(())
 }
