@@ -68,7 +68,8 @@ pub fn keep_food(plane: &Plane, food: &[u8], into: &mut Vec<u8>) -> Result<bool,
     Ok(true)
 }
 
-/// The number of free cells of a chunk, in code without branches.
+/// The number of free cells of a chunk, in code without branches. It is not inlined: else LLVM
+/// vectorizes the caller's loop in its place.
 #[inline(never)]
 fn free_in(chunk: &[Cell; CHUNK]) -> usize
     ensures { result ≡ count_by is_free chunk.now }

@@ -8,7 +8,7 @@ use crate::boards::{laid, setup};
 use crate::draws::Draws;
 use crate::orders::orders;
 use bs_board::limits::LAST_TURN;
-use bs_board::{Board, Cells, Move, Point, Record, is_legal};
+use bs_board::{Board, Move, Point, Record, is_legal};
 use bs_modes::{over, start};
 use bs_plane::Stepper;
 use bs_rules::turn;
@@ -185,13 +185,13 @@ fn full(alloc: Global, parts: Parts) -> Result<Board, AllocError> {
     Ok(board)
 }
 
-/// The food of the board after a move straight on with that word, played over the plane.
-fn food_after(alloc: Global, board: Board, word: u32) -> Result<Cells, Fail> {
+/// The board after a move straight on with that word, played over the plane.
+fn after(alloc: Global, board: Board, word: u32) -> Result<Board, Fail> {
     holds("a legal board", is_legal(&board))?;
     let words = bs_samples::orders(alloc, &[], &[word])?;
     let (game, stepped) = play(alloc, begun(alloc, board)?, &words)?;
     holds("over the plane", stepped)?;
-    Ok(game.board.food)
+    Ok(game.board)
 }
 
 /// The cells of a board are counted 32 at once, row by row from the bottom left. A tail leaves the
@@ -208,14 +208,11 @@ fn food_on_the_only_free_cell(rt: HostRuntime) -> Result<(), Fail> {
         [(6, 8), (7, 8), (8, 8)],
     ];
     for parts in &bodies {
-        let food = food_after(alloc, full(alloc, parts)?, 12_345)?;
+        let board = after(alloc, full(alloc, parts)?, 12_345)?;
         let [_, _, (x, y)] = *parts;
-        same("the food", food.len(), 78)?;
-        same(
-            "the cell",
-            food.as_slice().last().copied(),
-            Some(Point { x, y }),
-        )?;
+        same("the food", board.food.len(), 78)?;
+        let last = board.food.as_slice().last().copied();
+        same("the cell", last, Some(Point { x, y }))?;
     }
     Ok(())
 }
@@ -225,7 +222,8 @@ fn food_on_the_only_free_cell(rt: HostRuntime) -> Result<(), Fail> {
 fn no_food_where_no_cell_is_free(rt: HostRuntime) -> Result<(), Fail> {
     let alloc = rt.alloc();
     let board = full(alloc, &[(6, 3), (5, 3), (4, 3), (4, 3)])?;
-    same("the food", food_after(alloc, board, 12_345)?.len(), 77)
+    let board = after(alloc, board, 12_345)?;
+    same("the food", board.food.len(), 77)
 }
 
 /// A snake on the top row leaves 78 free cells, of which those below it have their index as number.
@@ -246,8 +244,8 @@ fn food_on_the_free_cell_of_the_number(rt: HostRuntime) -> Result<(), Fail> {
     for &(word, (x, y)) in &places {
         let mut board = solo(alloc, 9, 5, 50, &[(3, 8), (2, 8), (1, 8)])?;
         board.min_food = 1;
-        let food = food_after(alloc, board, word)?;
-        same("the food", food.as_slice(), &[Point { x, y }])?;
+        let board = after(alloc, board, word)?;
+        same("the food", board.food.as_slice(), &[Point { x, y }])?;
     }
     Ok(())
 }
