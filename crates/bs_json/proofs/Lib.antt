@@ -3,6 +3,7 @@ pub mod CellTexts
 pub mod CompactBytes
 pub mod CompactLines
 pub mod CutTexts
+pub mod Decimals
 pub mod Floats
 pub mod LineBounds
 pub mod Lines

@@ -12,9 +12,11 @@ ghost use Rattle.bs_json.specs.declared.limits.TheConstants.{MAX_LINE};
 
 use crate::line::Line;
 use crate::name::Name;
+use crate::numbers::split_number;
 use crate::ordered_moves::in_order;
-use bs_board::limits::{LAST_TURN, MOST_WORDS};
-use bs_board::{Command, Direction, Id, Move, Moves, TurnNumber, Words};
+use crate::short::parse_short_order;
+use bs_board::limits::MOST_WORDS;
+use bs_board::{Command, Direction, Id, Move, Moves, Words};
 use std::alloc::{AllocError, Global};
 use std::str;
 
@@ -27,7 +29,7 @@ pub(crate) fn is_plain(byte: u8) -> bool
 
 /// Strips the text from the start of the line. `None` if the line does not start with it.
 #[tactic(auto, using(crate::proofs::CutTexts::behind_prefix))]
-fn strip_prefix<'l>(line: &'l [u8], text: &[u8]) -> Option<&'l [u8]>
+pub(crate) fn strip_prefix<'l>(line: &'l [u8], text: &[u8]) -> Option<&'l [u8]>
     ensures { IfSome result (λ rest. line.now ≡ text.now ++ rest.now) }
 {
     match line.strip_prefix(text) {
@@ -122,44 +124,7 @@ fn split_moves<'l>(alloc: Global, line: &'l [u8]) -> Result<Option<(Moves, &'l [
     Ok(None)
 }
 
-fn are_digits(text: &[u8]) -> bool
-    ensures { result ≡ list_all is_ascii_digit text.now }
-{
-    text.iter().all(|byte| byte.is_ascii_digit())
-}
-
-/// Whether these are digits, with no leading zero.
-fn are_shortest(digits: &[u8]) -> bool
-    ensures digits { IsTrue result → list_all is_ascii_digit digits.now ≡ true }
-    ensures front { IsTrue result → slice_index digits.now 0 ≡ 48 → length digits.now ≤ 1 }
-{
-    are_digits(digits) && (digits.len() <= 1 || digits[0] != b'0')
-}
-
-/// Parses a number of at most 32 bits in its shortest decimal form.
-#[tactic(auto, using(crate::proofs::CutTexts::written_number))]
-fn number_in(digits: &[u8]) -> Option<u32>
-    ensures { IfSome result (λ number. digits.now ≡ decimal number) }
-{
-    if !are_shortest(digits) {
-        return None;
-    }
-    match str::from_utf8(digits).ok()?.parse::<u32>() {
-        Ok(number) => Some(number),
-        Err(_) => None,
-    }
-}
-
-/// Parses the number at the start of the line.
-fn split_number<'l>(line: &'l [u8]) -> Option<(u32, &'l [u8])>
-    ensures { IfSome result (λ found. line.now ≡ decimal found.0 ++ found.1.now) }
-{
-    let end = line.iter().position(|byte| !byte.is_ascii_digit())?;
-    let (digits, rest) = line.split_at(end);
-    Some((number_in(digits)?, rest))
-}
-
-fn is_exactly(line: &[u8], text: &[u8]) -> bool
+pub(crate) fn is_exactly(line: &[u8], text: &[u8]) -> bool
     ensures { result ≡ true → line.now ≡ text.now }
 {
     line == text
@@ -201,17 +166,6 @@ fn split_words<'l>(
     Ok(None)
 }
 
-/// Parses a `turn` from its number on.
-fn parse_turn(line: &[u8]) -> Option<TurnNumber>
-    ensures { IfSome result (λ at. line.now ≡ decimal at ++ codes "}") }
-{
-    let (number, rest) = split_number(line)?;
-    if number > u32::from(LAST_TURN) || !is_exactly(rest, b"}") {
-        return None;
-    }
-    TurnNumber::new(number as u16)
-}
-
 /// Parses what follows the moves of a `move` line. Returns the words, and whether they are written:
 /// a line without words may leave them out.
 fn parse_tail(alloc: Global, line: &[u8]) -> Result<Option<(Words, bool)>, AllocError>
@@ -249,33 +203,6 @@ fn parse_move(alloc: Global, line: &[u8]) -> Result<Option<(Move, bool)>, AllocE
     Ok(Some((Move::new(moves, words), written)))
 }
 
-/// Parses a command that has no members.
-fn parse_bare_order(order: &[u8]) -> Option<Command>
-    ensures text { IfSome result (λ command. order.now ≡ order_text false [] command) }
-    ensures compact { IfSome result (IsCompact false []) }
-{
-    if is_exactly(order, b"show\"}") {
-        Some(Command::Show)
-    } else if is_exactly(order, b"free\"}") {
-        Some(Command::Free)
-    } else if is_exactly(order, b"end\"}") {
-        Some(Command::End)
-    } else {
-        None
-    }
-}
-
-/// Parses a command without words, from its name on.
-fn parse_short_order(order: &[u8]) -> Option<Command>
-    ensures text { IfSome result (λ command. order.now ≡ order_text false [] command) }
-    ensures compact { IfSome result (IsCompact false []) }
-{
-    match strip_prefix(order, b"turn\",\"at\":") {
-        Some(at) => Some(Command::Turn(parse_turn(at)?)),
-        None => parse_bare_order(order),
-    }
-}
-
 /// Parses a command from its name on. Also returns whether its words are written.
 fn parse_order(alloc: Global, order: &[u8]) -> Result<Option<(Command, bool)>, AllocError>
     ensures { IfOk result (λ o. IfSome o (λ found. IsOrderText order.now found.1 found.0)) }
@@ -287,13 +214,13 @@ fn parse_order(alloc: Global, order: &[u8]) -> Result<Option<(Command, bool)>, A
         });
     }
     Ok(match parse_short_order(order) {
-        Some(command) => Some((command, false)),
+        Some(short) => Some((short.command(), false)),
         None => None,
     })
 }
 
 /// Parses the line up to its command's name. Returns the game's name, and the rest of the line.
-fn split_game<'l>(line: &'l [u8]) -> Option<(&'l [u8], &'l [u8])>
+pub(crate) fn split_game<'l>(line: &'l [u8]) -> Option<(&'l [u8], &'l [u8])>
     ensures text { IfSome result
         (λ found. line.now ≡ codes "{\"game\":\"" ++ (found.0.now ++ (codes "\",\"do\":\"" ++ found.1.now))) }
     ensures plain { IfSome result (λ found. are_plain found.0.now ≡ true) }
