@@ -1,6 +1,6 @@
 -- Parsed lines, and their routes.
 use Rattle.std.proofs.Common.{◌≡◌, ℕ, ◌+◌, ◌<◌, List, [], ◌∷◌, ◌++◌, Option, Some, None, drop, get_or, length, refl, sym, ap, subst, ◌∙◌, arith, append-nil, append_assoc, inl, inr}
-use Rattle.std.specs.Prelude.{All, option_map, option_to_list, slice_set, unwrap_or, IfSome}
+use Rattle.std.specs.Prelude.{All, option_copied, option_map, option_to_list, slice_set, unwrap_or, IfSome}
 use Rattle.std.specs.Borrow.{Bor}
 use Rattle.std.specs.List.{cons_option}
 use Rattle.std.proofs.Math.ListN.{get_or-eq_default}
@@ -8,6 +8,7 @@ use Rattle.std.proofs.lemmas.Bool.{cases_lt}
 use Rattle.std.proofs.lemmas.Bool.Decides.{eqb_tells}
 use Rattle.std.proofs.lemmas.Grind.{get_or-set_at}
 use Rattle.std.proofs.lemmas.List.{drop_more, get_or-set_other, length-set, map-append}
+use Rattle.bs_board.specs.declared.commands.command.Command.{Command}
 use Rattle.bs_board.specs.declared.plans.plan.Plan.{Plan}
 use Rattle.bs_board.specs.declared.plans.version.Version.{Version}
 use Rattle.bs_board.specs.plans.Plan.{GameRow}
@@ -17,11 +18,13 @@ use Rattle.bs_json.specs.Line.{line_of}
 use Rattle.bs_registry.specs.Stays.{Capacity}
 use Rattle.bs_workers.specs.Acts.{opened}
 use Rattle.bs_host.specs.declared.parse.ParsedLine.{ParsedLine}
+use Rattle.bs_host.specs.declared.parse.ParsedLine.TheVariants as a_parsed
 use Rattle.bs_host.specs.declared.route.Requests.{Requests}
 use Rattle.bs_host.specs.declared.route.Route.{Route}
 use Rattle.bs_registry.specs.OpenStays.{OpenStayList, open_stays_of}
 use Rattle.bs_host.specs.inner.OpenStays.{open_stays_then, route_by, routes_by_open_stays}
 use Rattle.bs_host.specs.File.{pieces_of}
+use Rattle.bs_host.specs.inner.File.{pieces_after}
 use Rattle.bs_host.specs.inner.Parsed.{AreShares, IsShare, all_lines, parsed_line, parsed_lines, pieces_in, route_parsed, routes_parsed}
 use Rattle.bs_host.specs.Routing.{act_in, acts_in, numbered_stray, routes_from, strays_in}
 use Rattle.bs_host.specs.inner.Routing.{AreLeft, IsRouted}
@@ -131,6 +134,19 @@ pub one_more_parsed : (version : Version) (left : List (List ℕ)) (piece : List
 one_more_parsed version left piece rest old new total parsed is read pushed before =
     ap (λ lines. lines ++ parsed_lines version rest) pushed ∙ append_assoc old (parsed ∷ []) (parsed_lines version rest)
     ∙ ap (λ first. old ++ first ∷ parsed_lines version rest) read ∙ ap (λ pieces. old ++ parsed_lines version pieces) (sym is) ∙ before
+
+-- a short command, whose line was read as that command
+pub parsed_short : (version : Version) (text game : List ℕ) (c shared : Command) → line_of version text ≡ line.Command game c → shared ≡ c
+    → a_parsed.Command game shared ≡ parsed_line (line_of version text)
+parsed_short version text game c shared is same = ap (a_parsed.Command game) same ∙ ap parsed_line (sym is)
+
+-- the next line, then the remaining ones
+pub next_parsed : (version : Version) (left more : Option (Bor (List ℕ))) (text : Bor (List ℕ)) (piece : List ℕ) (first : ParsedLine)
+    → left ≡ Some text → pieces_of text.now ≡ piece ∷ pieces_after (option_copied more) → first ≡ parsed_line (line_of version piece)
+    → parsed_lines version (pieces_after (option_copied left)) ≡ first ∷ parsed_lines version (pieces_after (option_copied more))
+next_parsed version left more text piece first is cut read =
+    ap (λ some. parsed_lines version (pieces_after (option_copied some))) is ∙ ap (parsed_lines version) cut
+    ∙ ap (λ l. l ∷ parsed_lines version (pieces_after (option_copied more))) (sym read)
 
 -- routing
 

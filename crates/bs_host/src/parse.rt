@@ -2,13 +2,14 @@
 ghost use Rattle.std.specs.Prelude.{◌≡◌, ◌<◌, All, IfOk, IfSome, None, OnOk, Some, length, slice_index_or, slice_set};
 ghost use Rattle.std.specs.Thread.{IsSync};
 ghost use Rattle.bs_json.specs.Line.{line_of};
+ghost use Rattle.bs_json.specs.Short.{command_of_short};
 ghost use Rattle.bs_host.specs.File.{pieces_of};
 ghost use Rattle.bs_host.specs.inner.Parsed.{AreShares, IsShare, all_lines, parsed_line, parsed_lines, pieces_in};
 
 use crate::lines::{split_from, split_line};
 use bs_board::{Command, Version};
 use bs_fiber::SharedCommand;
-use bs_json::{Line, Name, Stray, read_line};
+use bs_json::{Line, Name, ShortCommand, ShortLine, Stray, read_line, read_short};
 use bs_sched::SharedRow;
 use std::alloc::{AllocError, Global};
 use std::marker::Model;
@@ -30,30 +31,28 @@ pub enum ParsedLine<'l> {
     Blank,
 }
 
-/// Allocates the command; or shares the command of the line before, if both are equal and have
-/// neither setup nor moves.
-#[inline(always)]
+/// Allocates the command; or shares the one before, if both are equal and have neither setup nor
+/// moves.
 fn to_shared(
     alloc: Global,
     command: Command,
-    before: Option<&ParsedLine<'_>>,
+    before: Option<&SharedCommand>,
 ) -> Result<SharedCommand, AllocError>
     ensures { IfOk result (λ shared. shared ≡ command) }
 {
     match before {
-        Some(ParsedLine::Command(_, before))
-            if before.is_bare() && before.get().is_same(&command) => { before.share() }
+        Some(before) if before.is_bare() && before.get().is_same(&command) => before.share(),
         _ => SharedCommand::new(alloc, command),
     }
 }
 
-/// Parses a line. Its command may share the memory of the one before.
-#[inline(always)]
-pub(crate) fn parse_line<'l>(
+/// Parses a line that may have a setup or moves. Its command may share the memory of the one before.
+#[inline(never)]
+fn parse_any<'l>(
     alloc: Global,
     version: Version,
     line: &'l [u8],
-    before: Option<&ParsedLine<'_>>,
+    before: Option<&SharedCommand>,
 ) -> Result<ParsedLine<'l>, AllocError>
     ensures { IfOk result (λ parsed. parsed ≡ parsed_line (line_of version line.now)) }
 {
@@ -72,6 +71,65 @@ pub(crate) fn parse_line<'l>(
         Line::BadAdmit => Ok(ParsedLine::Stray(Stray::BadRow)),
         Line::Leave { game: Some(game) } => Ok(ParsedLine::Leave(game)),
         Line::Leave { game: None } => Ok(ParsedLine::Stray(Stray::NoStay)),
+    }
+}
+
+/// Shares the command before, if it is this one; else allocates this one.
+#[inline(always)]
+fn share_or_new(
+    alloc: Global,
+    command: ShortCommand,
+    before: &SharedCommand,
+) -> Result<SharedCommand, AllocError>
+    ensures { IfOk result (λ shared. shared ≡ command_of_short command) }
+{
+    if command.is(before.get()) {
+        return before.share();
+    }
+    SharedCommand::new(alloc, command.command())
+}
+
+/// Allocates a short command, or shares the one before if they are equal.
+#[inline(always)]
+fn share_short(
+    alloc: Global,
+    command: ShortCommand,
+    before: Option<&SharedCommand>,
+) -> Result<SharedCommand, AllocError>
+    ensures { IfOk result (λ shared. shared ≡ command_of_short command) }
+{
+    match before {
+        Some(before) => share_or_new(alloc, command, before),
+        None => SharedCommand::new(alloc, command.command()),
+    }
+}
+
+/// Parses a line. Its command may share the memory of the one before.
+#[tactic(auto, using(crate::proofs::ParsedLines::parsed_short))]
+#[inline(always)]
+pub(crate) fn parse_line<'l>(
+    alloc: Global,
+    version: Version,
+    line: &'l [u8],
+    before: Option<&SharedCommand>,
+) -> Result<ParsedLine<'l>, AllocError>
+    ensures { IfOk result (λ parsed. parsed ≡ parsed_line (line_of version line.now)) }
+{
+    match read_short(line) {
+        Some(ShortLine { game, command }) => {
+            let command = share_short(alloc, command, before)?;
+            Ok(ParsedLine::Command(game, command))
+        }
+        None => parse_any(alloc, version, line, before),
+    }
+}
+
+/// The command of the last line, if it has one.
+#[inline(always)]
+fn last_command<'s>(lines: &'s [ParsedLine<'_>]) -> Option<&'s SharedCommand> {
+    match lines.last() {
+        Some(ParsedLine::Command(_, command)) => Some(command),
+        _ => None,
     }
 }
 
@@ -105,7 +163,7 @@ fn parse_share<'l>(alloc: Global, version: Version, text: &'l [u8]) -> Result<Sh
     let mut left = Some(text);
     'lines: while let Some(text) = left {
         let (line, more) = split_line(text);
-        let parsed = parse_line(alloc, version, line, lines.last())?;
+        let parsed = parse_line(alloc, version, line, last_command(lines.as_slice()))?;
         lines.push(parsed)?;
         left = more;
     }

@@ -1,19 +1,21 @@
 //! Routes the parsed lines of a file: to the core as acts, to the stray lines, or nowhere.
-ghost use Rattle.std.specs.Prelude.{◌≡◌, ◌++◌, ◌∷◌, ℕ, List, true, IfOk, OnOk, option_to_list};
+ghost use Rattle.std.specs.Prelude.{◌≡◌, ◌++◌, ◌∷◌, ℕ, List, true, IfOk, OnOk, option_copied, option_to_list};
 ghost use Rattle.bs_workers.specs.Acts.{opened};
 ghost use Rattle.bs_registry.specs.OpenStays.{found_in, open_stays_of};
 ghost use Rattle.bs_registry.specs.inner.OpenStays.{refusal_by};
 ghost use Rattle.bs_registry.specs.Registry.{rows_in, seen};
 ghost use Rattle.bs_host.specs.inner.OpenStays.{may_follow};
-ghost use Rattle.bs_host.specs.inner.Parsed.{all_lines, route_parsed, routes_parsed};
+ghost use Rattle.bs_host.specs.inner.File.{pieces_after};
+ghost use Rattle.bs_host.specs.inner.Parsed.{all_lines, parsed_lines, route_parsed, routes_parsed};
 ghost use Rattle.bs_host.specs.Routing.{act_in, admit_route, capacity_of, hand_route, leave_route, numbered_stray, stray_for};
 ghost use Rattle.bs_host.specs.declared.route.Route.{Route};
 ghost use Rattle.bs_host.specs.inner.Routing.{IsRouted, WillRoute};
 
 use crate::limits::BLOCK_BYTES;
+use crate::lines::split_line;
 use crate::open_rows::route_row;
-use crate::parse::{ParsedLine, Share};
-use bs_board::Rows;
+use crate::parse::{ParsedLine, Share, parse_line};
+use bs_board::{Plan, Rows};
 use bs_fiber::SharedCommand;
 use bs_json::Stray;
 use bs_registry::{Refusal, Registry, blocks_of, open_rows};
@@ -120,6 +122,15 @@ struct Router {
 }
 
 impl Router {
+    /// The command of the last act, if it has one.
+    #[inline(always)]
+    fn last_command(&self) -> Option<&SharedCommand> {
+        match self.requests.acts.last() {
+            Some(Act::Hand(_, command)) => Some(command),
+            _ => None,
+        }
+    }
+
     /// Routes the next line of a file that is served with `blocks` blocks.
     #[tactic(auto, using(crate::proofs::ParsedLines::goes_on))]
     #[inline(always)]
@@ -154,6 +165,36 @@ impl Router {
         }
         Ok(())
     }
+}
+
+/// Parses and routes the lines after the plan of a file in one pass, without a list of the parsed
+/// lines.
+#[tactic(auto, using(crate::proofs::ParsedLines::fewer_left, crate::proofs::ParsedLines::none_read, crate::proofs::ParsedLines::all_read))]
+pub(crate) fn route_text(
+    alloc: Global,
+    blocks: usize,
+    plan: &Plan,
+    text: Option<&[u8]>,
+) -> Result<Requests, AllocError>
+    ensures { IfOk result (IsRouted (routes_parsed (capacity_of blocks) (open_stays_of (opened plan.now.rows)) 2 (parsed_lines plan.now.version (pieces_after (option_copied text.entry))))) }
+{
+    let mut router = Router {
+        open_stays: open_rows(alloc, &plan.rows)?,
+        requests: Requests {
+            acts: Vec::new(alloc),
+            strays: Vec::new(alloc),
+        },
+        number: FIRST_NUMBER,
+    };
+    let mut left = text;
+    'lines: while let Some(text) = left {
+        let (line, more) = split_line(text);
+        let parsed = parse_line(alloc, plan.version, line, router.last_command())?;
+        router.route(alloc, blocks, parsed)?;
+        left = more;
+    }
+    let Router { requests, .. } = router;
+    Ok(requests)
 }
 
 /// The number of lines of all shares.

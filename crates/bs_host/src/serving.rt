@@ -21,7 +21,7 @@ use crate::limits::{BLOCK_BYTES, MOST_FILE_BYTES};
 use crate::lines::split_line;
 use crate::parse::{Share, parse_text};
 use crate::played::Played;
-use crate::route::{Requests, route_lines};
+use crate::route::{Requests, route_lines, route_text};
 use bs_board::Plan;
 use bs_json::read_plan;
 use bs_sched::Core;
@@ -79,8 +79,8 @@ fn opened_with<'f>(
     Ok((core?, lines?))
 }
 
-/// Opens a core for the plan of a file. If there may be several threads, its lines are parsed
-/// meanwhile; the fault of opening comes before that of parsing.
+/// Opens a core for the plan of a file, while its lines are parsed by other threads. The fault of
+/// opening comes before that of parsing.
 fn open_file<'f, R: Threads + Sync>(
     rt: &R,
     alloc: Global,
@@ -99,11 +99,6 @@ fn open_file<'f, R: Threads + Sync>(
         let core = open_core(alloc, plan, blocks, threads);
         return opened_with(file, core, Ok(Vec::new(alloc)));
     };
-    if threads <= 1 {
-        let core = open_core(alloc, plan, blocks, threads);
-        let lines = parse_text(rt, alloc, version, text, threads);
-        return opened_with(file, core, lines);
-    }
     let (core, lines) = join(
         rt,
         || -> Result<Core<BLOCK_BYTES>, Fault>
@@ -119,6 +114,23 @@ fn open_file<'f, R: Threads + Sync>(
     opened_with(file, core, lines)
 }
 
+/// Opens a core for the plan of a file; then parses and routes its lines, on the calling thread.
+fn read_alone(
+    alloc: Global,
+    file: CommandFile<'_>,
+    threads: usize,
+) -> Result<(Core<BLOCK_BYTES>, Requests), Fault>
+    requires { threads ≤ MOST_THREADS }
+    ensures core { IfOk result (λ read. IsCoreOf file.entry.blocks file.entry.plan.now read.0) }
+    ensures routed { IfOk result
+        (λ read. IsRouted (routes_from (capacity_of file.entry.blocks) file.entry.plan.now.version (opened file.entry.plan.now.rows) 2 (pieces_after (option_copied file.entry.rest))) read.1) }
+    ensures fault { IfErr result (IsRefusal (refusal_of_plan file.entry.blocks (Ok file.entry.plan.now))) }
+{
+    let core = open_core(alloc, file.plan, file.blocks, threads)?;
+    let requests = route_text(alloc, file.blocks, file.plan, file.rest)?;
+    Ok((core, requests))
+}
+
 /// Opens a core for the plan of a file, and routes its lines.
 fn read_requests<R: Threads + Sync>(
     rt: &R,
@@ -132,6 +144,9 @@ fn read_requests<R: Threads + Sync>(
         (λ read. IsRouted (routes_from (capacity_of file.entry.blocks) file.entry.plan.now.version (opened file.entry.plan.now.rows) 2 (pieces_after (option_copied file.entry.rest))) read.1) }
     ensures fault { IfErr result (IsRefusal (refusal_of_plan file.entry.blocks (Ok file.entry.plan.now))) }
 {
+    if threads <= 1 {
+        return read_alone(alloc, file, threads);
+    }
     let (core, lines) = open_file(rt, alloc, file, threads)?;
     Ok((
         core,

@@ -1,14 +1,10 @@
 -- The parts at the start of a line.
-use Rattle.std.proofs.Common.{◌≡◌, ℕ, suc, ◌+◌, ◌<◌, ◌≤◌, ◌^◌, inl, inr, Bool, true, false, not, ◌&&◌, cond, List, [], ◌∷◌, ◌++◌, length, take, drop, get_or, decimal, Some, None, Result, Ok, OkIff, refl, sym, ap, ap₂, subst, ◌∙◌, arith, append_assoc, take-append-drop}
-use Rattle.std.specs.Char.{is_ascii_digit}
+use Rattle.std.proofs.Common.{◌≡◌, ℕ, suc, ◌+◌, inl, inr, Bool, true, false, not, cond, List, [], ◌∷◌, ◌++◌, length, take, drop, decimal, Some, None, refl, sym, ap, ap₂, subst, ◌∙◌, arith, append_assoc, take-append-drop}
 use Rattle.std.specs.List.{list_all, position, position_or_len}
-use Rattle.std.specs.Str.{all_ascii_digits, bytes_eq}
-use Rattle.std.specs.Str.Parse.{ParsesUnsigned, digits_value}
+use Rattle.std.specs.Str.{bytes_eq}
 use Rattle.std.proofs.lemmas.Bool.{and_from, cases_Bool}
-use Rattle.std.proofs.lemmas.Fmt.{decimal-digits_value}
 use Rattle.std.proofs.lemmas.List.Folds.{list_all-append}
 use Rattle.std.proofs.lemmas.Slice.Eq.{bytes_eq-Decides}
-use Rattle.std.proofs.lemmas.Str.Parse.{IsNumeralModel, numerals_by_value, tells_all_ascii_digits, parse_digits}
 use Rattle.serde_json.specs.Written.{comma_if}
 use Rattle.bs_board.specs.declared.boards.point.Direction.{Direction}
 use Rattle.bs_board.specs.declared.boards.point.Point.{Point}
@@ -127,17 +123,3 @@ plain_with_one moves move plain one = list_all-append (λ m. are_plain m.0) move
 -- a command without moves, in a file of any version
 pub order_follows : (version : Version) (order : List ℕ) (c : Command) → order ≡ order_text false [] c → ((v : Version) → IsCompact v false [] c) → IsOrderText version order false c
 order_follows version order c is compact = record { given = []; is = is; compact = compact version }
-
-all_digits : (text : List ℕ) → list_all is_ascii_digit text ≡ all_ascii_digits text
-all_digits [] = refl
-all_digits (c ∷ cs) = ap (λ b. is_ascii_digit c && b) (all_digits cs)
-
-pub written_number : {E : Type 0} (text : List ℕ) (n : ℕ) (r : Result ℕ E) → list_all is_ascii_digit text ≡ true → (get_or text 0 0 ≡ 48 → length text ≤ 1) → ParsesUnsigned 32 10 text r
-    → r ≡ Ok n → text ≡ decimal n
-written_number text n r digits front parses is =
-    let own : IsNumeralModel (λ ds. all_ascii_digits ds ≡ true) (digits_value 10) = numerals_by_value _ tells_all_ascii_digits in
-    let all = sym (all_digits text) ∙ digits in
-    let read : ((0 < length text) × (digits_value 10 text < 2 ^ 32)) × (n ≡ digits_value 10 text) = subst (λ o. OkIff o ((0 < length text) × (digits_value 10 text < 2 ^ 32)) (digits_value 10 text)) is (parse_digits own 32 text r parses all) in
-    let some : 0 < length text = read.0.0 in
-    let small : digits_value 10 text < 2 ^ 64 = omega (arith, read.0.1) in
-    sym (decimal-digits_value own text all some (λ zero. let few = front zero in omega arith) small) ∙ ap decimal (sym read.1)

@@ -4,6 +4,7 @@ pub mod CompactBytes
 pub mod CompactLines
 pub mod CompactMaps
 pub mod CutTexts
+pub mod Decimals
 pub mod Floats
 pub mod GivenMoves
 pub mod LineBounds

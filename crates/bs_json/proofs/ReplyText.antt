@@ -1,7 +1,7 @@
 -- The pieces of replies are the texts of their data.
-use Rattle.std.proofs.Common.{◌≡◌, ℕ, List, ◌++◌, codes, Option, refl}
+use Rattle.std.proofs.Common.{◌≡◌, ℕ, List, ◌++◌, codes, Option, refl, ◌∙◌, append_assoc}
 use Rattle.std.specs.Prelude.{decimal}
-use Rattle.json.specs.Print.{escape_byte}
+use Rattle.json.specs.Print.{escape, escape_byte}
 use Rattle.serde_json.specs.Data.{string}
 use Rattle.serde_json.specs.Written.{compact_text}
 use Rattle.bs_board.specs.declared.boards.board.Board.{Board}
@@ -11,7 +11,7 @@ use Rattle.bs_board.specs.declared.commands.reply.Reply.TheVariants.{Shown, Plai
 use Rattle.bs_json.specs.declared.line.Stray.{Stray}
 use Rattle.bs_json.specs.Boards.{board_data}
 use Rattle.bs_json.specs.Replies.{final_data, last_data, refusal_code, refusal_text, reply_data, stray_code, stray_data, stray_text}
-use Rattle.bs_json.specs.inner.Replies.{tail_pieces}
+use Rattle.bs_json.specs.inner.Replies.{code_text, reason_text, tail_pieces}
 
 pub shown_is : (game : List ℕ) (seq : ℕ) (word : Word) (board : Board) (charge : ℕ)
     → codes "{\"board\":" ++ (compact_text (board_data board) ++ (codes ",\"charge\":" ++ tail_pieces game seq word charge)) ≡ compact_text (reply_data game seq (Shown word board charge))
@@ -27,6 +27,17 @@ pub refused_is : (game : List ℕ) (seq : ℕ) (refusal : Refusal)
     ++ (codes ",\"why\":" ++ (compact_text (string (refusal_text refusal)) ++ codes "}"))))))) ≡ compact_text (reply_data game seq (Refused refusal))
 unfolding escape_byte reply_data
 refused_is game seq refusal = refl
+
+regroup_refused : (lead game member code next seq tail : List ℕ) → (lead ++ codes "\"") ++ (game ++ ((codes "\"" ++ (member ++ (code ++ next))) ++ (seq ++ tail)))
+    ≡ lead ++ ((codes "\"" ++ (game ++ codes "\"")) ++ (member ++ (code ++ (next ++ (seq ++ tail)))))
+regroup_refused lead game member code next seq tail = simp append_assoc
+
+-- in the pieces in which it is appended
+pub refused_pieces : (game : List ℕ) (seq : ℕ) (refusal : Refusal)
+    → codes "{\"game\":\"" ++ (escape game ++ (code_text refusal ++ (decimal seq ++ reason_text refusal))) ≡ compact_text (reply_data game seq (Refused refusal))
+refused_pieces game seq refusal =
+    regroup_refused (codes "{\"game\":") (escape game) (codes ",\"no\":") (compact_text (string (refusal_code refusal))) (codes ",\"seq\":") (decimal seq) (reason_text refusal)
+    ∙ refused_is game seq refusal
 
 pub final_is : (game : List ℕ) (board : Option Board) (charge : ℕ)
     → codes "{\"board\":" ++ (compact_text (last_data board) ++ (codes ",\"charge\":" ++ (decimal charge ++ (codes ",\"final\":true,\"game\":" ++ (compact_text (string game) ++ codes "}")))))

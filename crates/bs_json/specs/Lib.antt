@@ -5,6 +5,7 @@ pub mod Moves
 pub mod PlanLine
 pub mod Replies
 pub mod Setups
+pub mod Short
 pub mod Text
 pub mod Values
 pub mod inner

@@ -1,21 +1,21 @@
 //! Parses lines in their compact form, as programs write most of them: in one pass, without a JSON
 //! value.
-ghost use Rattle.std.specs.Prelude.{◌≡◌, ◌≤◌, [], ◌∷◌, ◌++◌, codes, decimal, length, slice_index, false, true, not, IsTrue, IfOk, IfSome};
-ghost use Rattle.std.specs.Char.{is_ascii_digit};
-ghost use Rattle.std.specs.List.{list_all, position};
+ghost use Rattle.std.specs.Prelude.{◌≡◌, ◌≤◌, [], ◌∷◌, ◌++◌, codes, decimal, length, false, true, not, IfOk, IfSome};
+ghost use Rattle.std.specs.List.{position};
 ghost use Rattle.serde_json.specs.Written.{comma_if};
 ghost use Rattle.bs_board.specs.commands.Orders.{AreFitWords, is_ascending, orders_of};
-ghost use Rattle.bs_json.specs.inner.Compact.{is_plain, are_plain, are_plain_moves, direction_name, move_text, moves_text, words_text, tail_text, order_text, IsCompact, GivenMoves, IsFitTail, IsMoveText, IsOrderText};
-ghost use Rattle.bs_board.specs.declared.plans.version.Version.{Version as AnyVersion};
+ghost use Rattle.bs_json.specs.inner.Compact.{is_plain, are_plain, direction_name, move_text, words_text, tail_text, GivenMoves, IsFitTail, IsMoveText, IsOrderText};
 ghost use Rattle.bs_json.specs.Line.{line_of};
 ghost use Rattle.bs_json.specs.declared.limits.TheConstants.{MAX_LINE};
 
 use crate::line::Line;
 use crate::maps::parse_map;
 use crate::name::Name;
+use crate::numbers::split_number;
 use crate::ordered_moves::{packed, put};
-use bs_board::limits::{LAST_TURN, MOST_WORDS};
-use bs_board::{Cells, Command, Direction, Id, Move, Moves, TurnNumber, Version, Words};
+use crate::short::parse_short_order;
+use bs_board::limits::MOST_WORDS;
+use bs_board::{Cells, Command, Direction, Id, Move, Moves, Version, Words};
 use std::alloc::{AllocError, Global};
 use std::str;
 
@@ -126,43 +126,6 @@ fn split_moves<'l>(alloc: Global, line: &'l [u8]) -> Result<Option<(Moves, &'l [
     Ok(None)
 }
 
-fn are_digits(text: &[u8]) -> bool
-    ensures { result ≡ list_all is_ascii_digit text.now }
-{
-    text.iter().all(|byte| byte.is_ascii_digit())
-}
-
-/// Whether these are digits, with no leading zero.
-fn are_shortest(digits: &[u8]) -> bool
-    ensures digits { IsTrue result → list_all is_ascii_digit digits.now ≡ true }
-    ensures front { IsTrue result → slice_index digits.now 0 ≡ 48 → length digits.now ≤ 1 }
-{
-    are_digits(digits) && (digits.len() <= 1 || digits[0] != b'0')
-}
-
-/// Parses a number of at most 32 bits in its shortest decimal form.
-#[tactic(auto, using(crate::proofs::CutTexts::written_number))]
-fn number_in(digits: &[u8]) -> Option<u32>
-    ensures { IfSome result (λ number. digits.now ≡ decimal number) }
-{
-    if !are_shortest(digits) {
-        return None;
-    }
-    match str::from_utf8(digits).ok()?.parse::<u32>() {
-        Ok(number) => Some(number),
-        Err(_) => None,
-    }
-}
-
-/// Parses the number at the start of the line.
-pub(crate) fn split_number<'l>(line: &'l [u8]) -> Option<(u32, &'l [u8])>
-    ensures { IfSome result (λ found. line.now ≡ decimal found.0 ++ found.1.now) }
-{
-    let end = line.iter().position(|byte| !byte.is_ascii_digit())?;
-    let (digits, rest) = line.split_at(end);
-    Some((number_in(digits)?, rest))
-}
-
 pub(crate) fn is_exactly(line: &[u8], text: &[u8]) -> bool
     ensures { result ≡ true → line.now ≡ text.now }
 {
@@ -203,17 +166,6 @@ fn split_words<'l>(
         later = true;
     }
     Ok(None)
-}
-
-/// Parses a `turn` from its number on.
-fn parse_turn(line: &[u8]) -> Option<TurnNumber>
-    ensures { IfSome result (λ at. line.now ≡ decimal at ++ codes "}") }
-{
-    let (number, rest) = split_number(line)?;
-    if number > u32::from(LAST_TURN) || !is_exactly(rest, b"}") {
-        return None;
-    }
-    TurnNumber::new(number as u16)
 }
 
 /// Parses the words of a `move` line from the first one on, up to the end of the line.
@@ -283,35 +235,7 @@ fn parse_move(
     parse_tail(alloc, version, moves, rest)
 }
 
-/// Parses a command that has no members.
-fn parse_bare_order(order: &[u8]) -> Option<Command>
-    ensures text { IfSome result (λ command. order.now ≡ order_text false [] command) }
-    ensures compact { IfSome result (λ command. (version : AnyVersion) → IsCompact version false [] command) }
-{
-    if is_exactly(order, b"show\"}") {
-        Some(Command::Show)
-    } else if is_exactly(order, b"free\"}") {
-        Some(Command::Free)
-    } else if is_exactly(order, b"end\"}") {
-        Some(Command::End)
-    } else {
-        None
-    }
-}
-
-/// Parses a command without words, from its name on.
-fn parse_short_order(order: &[u8]) -> Option<Command>
-    ensures text { IfSome result (λ command. order.now ≡ order_text false [] command) }
-    ensures compact { IfSome result (λ command. (version : AnyVersion) → IsCompact version false [] command) }
-{
-    match strip_prefix(order, b"turn\",\"at\":") {
-        Some(at) => Some(Command::Turn(parse_turn(at)?)),
-        None => parse_bare_order(order),
-    }
-}
-
 /// Parses a command from its name on. Also returns whether its words are written.
-#[tactic(auto, using(crate::proofs::CutTexts::order_follows))]
 fn parse_order(
     alloc: Global,
     version: Version,
@@ -326,13 +250,13 @@ fn parse_order(
         });
     }
     Ok(match parse_short_order(order) {
-        Some(command) => Some((command, false)),
+        Some(short) => Some((short.command(), false)),
         None => None,
     })
 }
 
 /// Parses the line up to its command's name. Returns the game's name, and the rest of the line.
-fn split_game<'l>(line: &'l [u8]) -> Option<(&'l [u8], &'l [u8])>
+pub(crate) fn split_game<'l>(line: &'l [u8]) -> Option<(&'l [u8], &'l [u8])>
     ensures text { IfSome result
         (λ found. line.now ≡ codes "{\"game\":\"" ++ (found.0.now ++ (codes "\",\"do\":\"" ++ found.1.now))) }
     ensures plain { IfSome result (λ found. are_plain found.0.now ≡ true) }

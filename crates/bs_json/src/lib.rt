@@ -13,11 +13,13 @@ mod maps;
 mod minified;
 mod moves;
 pub mod name;
+mod numbers;
 mod ordered_moves;
 mod pieces;
 pub mod plan;
 mod replies;
 mod setups;
+pub mod short;
 mod shown_bytes;
 mod text_buffer;
 mod values;
@@ -31,4 +33,5 @@ pub use plan::{PlanFault, read_plan};
 pub use replies::{
     final_line, push_final_line, push_reply_line, push_stray_line, reply_line, stray_line,
 };
+pub use short::{ShortCommand, ShortLine, read_short};
 pub use text_buffer::TextBuffer;

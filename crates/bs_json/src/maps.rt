@@ -5,8 +5,9 @@ ghost use Rattle.serde_json.specs.Written.{comma_if};
 ghost use Rattle.bs_json.specs.inner.BoardText.{coordinate_text};
 ghost use Rattle.bs_json.specs.inner.Maps.{is_near, is_near_cell, place_text, cells_text, given_text, map_text, IsMap};
 
-use crate::compact::{is_exactly, split_number, strip_prefix};
+use crate::compact::{is_exactly, strip_prefix};
 use crate::limits::MOST_FOOD;
+use crate::numbers::split_number;
 use bs_board::limits::{LONGEST_SIDE, MOST_HAZARDS};
 use bs_board::{Cells, Point, Version};
 use std::alloc::{AllocError, Global};

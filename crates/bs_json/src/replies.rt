@@ -2,18 +2,19 @@
 //! without a JSON value. Appending a line to a buffer allocates nothing.
 ghost use Rattle.std.specs.Prelude.{◌≡◌, IfOk, decimal};
 ghost use Rattle.std.specs.Option.{option_copied};
+ghost use Rattle.json.specs.Print.{escape};
 ghost use Rattle.serde_json.specs.Data.{string};
 ghost use Rattle.serde_json.specs.Events.{SendsValue};
 ghost use Rattle.serde_json.specs.View.{view};
 ghost use Rattle.serde_json.specs.Written.{compact_text};
 ghost use Rattle.bs_board.specs.declared.commands.reply.Reply.TheVariants.{Refused};
 ghost use Rattle.bs_json.specs.Replies.{word_text, refusal_code, refusal_text, stray_code, stray_text, reply_data, last_data, final_data, stray_data, reply_line_of, final_line_of, stray_line_of};
-ghost use Rattle.bs_json.specs.inner.Replies.{IsLineOf, tail_pieces};
+ghost use Rattle.bs_json.specs.inner.Replies.{IsLineOf, code_text, reason_text, tail_pieces};
 ghost use Rattle.bs_json.specs.Text.{put};
 
 use crate::boards::board_value;
 use crate::line::Stray;
-use crate::pieces::{push_number, push_string};
+use crate::pieces::{push_bytes, push_number, push_string};
 use crate::shown_bytes::push_board;
 use crate::text_buffer::TextBuffer;
 use bs_board::{Board, Id, KeptBoard, Refusal, Reply, Word};
@@ -35,35 +36,35 @@ fn quoted_word(word: Word) -> &'static [u8]
     }
 }
 
-/// The code of a refusal, in quotation marks.
+/// The text of a refusal between the game's name and the command's number.
 #[tactic(auto, unfolding(json::specs::Print::escape_byte))]
-fn quoted_code(refusal: Refusal) -> &'static [u8]
-    ensures { result.now ≡ compact_text (string (refusal_code refusal)) }
+fn code_piece(refusal: Refusal) -> &'static [u8; 18]
+    ensures { result.now ≡ code_text refusal }
 {
     match refusal {
-        Refusal::Unknown => b"\"G1\"",
-        Refusal::NoGame => b"\"G2\"",
-        Refusal::Running => b"\"G3\"",
-        Refusal::Over => b"\"G4\"",
-        Refusal::Limit => b"\"G5\"",
-        Refusal::NoRecord => b"\"G6\"",
-        Refusal::Quota => b"\"G7\"",
+        Refusal::Unknown => b"\",\"no\":\"G1\",\"seq\":",
+        Refusal::NoGame => b"\",\"no\":\"G2\",\"seq\":",
+        Refusal::Running => b"\",\"no\":\"G3\",\"seq\":",
+        Refusal::Over => b"\",\"no\":\"G4\",\"seq\":",
+        Refusal::Limit => b"\",\"no\":\"G5\",\"seq\":",
+        Refusal::NoRecord => b"\",\"no\":\"G6\",\"seq\":",
+        Refusal::Quota => b"\",\"no\":\"G7\",\"seq\":",
     }
 }
 
-/// The reason of a refusal, in quotation marks.
+/// The text of a refusal behind the command's number.
 #[tactic(auto, unfolding(json::specs::Print::escape_byte))]
-fn quoted_reason(refusal: Refusal) -> &'static [u8]
-    ensures { result.now ≡ compact_text (string (refusal_text refusal)) }
+fn reason_piece(refusal: Refusal) -> &'static [u8]
+    ensures { result.now ≡ reason_text refusal }
 {
     match refusal {
-        Refusal::Unknown => b"\"command\"",
-        Refusal::NoGame => b"\"none\"",
-        Refusal::Running => b"\"running\"",
-        Refusal::Over => b"\"over\"",
-        Refusal::Limit => b"\"limit\"",
-        Refusal::NoRecord => b"\"record\"",
-        Refusal::Quota => b"\"quota\"",
+        Refusal::Unknown => b",\"why\":\"command\"}",
+        Refusal::NoGame => b",\"why\":\"none\"}",
+        Refusal::Running => b",\"why\":\"running\"}",
+        Refusal::Over => b",\"why\":\"over\"}",
+        Refusal::Limit => b",\"why\":\"limit\"}",
+        Refusal::NoRecord => b",\"why\":\"record\"}",
+        Refusal::Quota => b",\"why\":\"quota\"}",
     }
 }
 
@@ -103,22 +104,6 @@ fn push_word(word: Word, text: &mut TextBuffer)
     ensures { text.new ≡ put text.old (compact_text (string (word_text word))) }
 {
     text.push(quoted_word(word));
-}
-
-/// Appends the code of a refusal.
-#[inline(always)]
-fn push_code(refusal: Refusal, text: &mut TextBuffer)
-    ensures { text.new ≡ put text.old (compact_text (string (refusal_code refusal))) }
-{
-    text.push(quoted_code(refusal));
-}
-
-/// Appends the reason of a refusal.
-#[inline(always)]
-fn push_reason(refusal: Refusal, text: &mut TextBuffer)
-    ensures { text.new ≡ put text.old (compact_text (string (refusal_text refusal))) }
-{
-    text.push(quoted_reason(refusal));
 }
 
 /// Appends the code of a stray.
@@ -166,19 +151,39 @@ fn push_tail(game: &Id, seq: u64, word: Word, charge: u32, text: &mut TextBuffer
     text.push(b"}");
 }
 
+/// Appends the bytes of a game's name, without quotation marks.
+#[inline(always)]
+fn push_name(game: &Id, text: &mut TextBuffer)
+    ensures { text.new ≡ put text.old (escape game.now) }
+{
+    push_bytes(game.as_bytes(), text);
+}
+
+/// Appends the members of a refusal between the game's name and the command's number.
+#[inline(always)]
+fn push_code(refusal: Refusal, text: &mut TextBuffer)
+    ensures { text.new ≡ put text.old (code_text refusal) }
+{
+    text.push(code_piece(refusal));
+}
+
+/// Appends the members of a refusal behind the command's number.
+#[inline(always)]
+fn push_reason(refusal: Refusal, text: &mut TextBuffer)
+    ensures { text.new ≡ put text.old (reason_text refusal) }
+{
+    text.push(reason_piece(refusal));
+}
+
 /// Appends a refusal, without the line feed.
 fn push_refused(game: &Id, seq: u64, refusal: Refusal, text: &mut TextBuffer)
     ensures { text.new ≡ put text.old (compact_text (reply_data game.now seq (Refused refusal))) }
 {
-    text.push(b"{\"game\":");
-    push_game(game, text);
-    text.push(b",\"no\":");
+    text.push(b"{\"game\":\"");
+    push_name(game, text);
     push_code(refusal, text);
-    text.push(b",\"seq\":");
     push_number(seq, text);
-    text.push(b",\"why\":");
     push_reason(refusal, text);
-    text.push(b"}");
 }
 
 /// Appends a reply, without the line feed.

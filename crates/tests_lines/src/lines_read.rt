@@ -1,7 +1,7 @@
 //! How each line of a file is parsed, in each version of the format.
 use crate::summaries::summary_of;
 use bs_board::Version;
-use bs_json::read_line;
+use bs_json::{Line, read_line, read_short};
 use bs_samples::same;
 use std::alloc::Global;
 use std::test::Fail;
@@ -151,6 +151,36 @@ fn games_are_admitted_and_dismissed_in_version_three_alone(rt: HostRuntime) -> R
         is_read(rt.alloc(), line, Version::One, before)?;
         is_read(rt.alloc(), line, Version::Two, before)?;
         is_read(rt.alloc(), line, Version::Three, wanted)?;
+    }
+    Ok(())
+}
+
+// Short commands in their compact form.
+const SHORT: &str = r#"{"game":"a","do":"show"}
+{"game":"a","do":"free"}
+{"game":"a","do":"end"}
+{"game":"","do":"end"}
+{"game":"a","do":"turn","at":0}
+{"game":"a","do":"turn","at":10}
+{"game":"a","do":"turn","at":10000}"#;
+
+#[test]
+fn short_commands_are_read(rt: HostRuntime) -> Result<(), Fail> {
+    for line in SHORT.split('\n') {
+        let short = read_short(line.as_bytes()).ok_or(line)?;
+        let wanted = summary_of(
+            rt.alloc(),
+            &read_line(rt.alloc(), line.as_bytes(), Version::One)?,
+        )?;
+        let read = Line::Command {
+            game: short.game,
+            command: short.command.command(),
+        };
+        same(
+            line,
+            summary_of(rt.alloc(), &read)?.as_str(),
+            wanted.as_str(),
+        )?;
     }
     Ok(())
 }
