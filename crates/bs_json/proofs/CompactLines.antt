@@ -389,3 +389,8 @@ pub line_of_compact : (version : Version) (text game order : List ℕ) (written 
 line_of_compact version text game order written c begins plain follows short =
     let is : text ≡ compact_text written follows.given game c = begins ∙ ap (line_text game) follows.is in
     line_of_text version text game written follows.given c is plain follows.compact (subst IsUtf8 (sym is) (compact_is_utf8 version game written follows.given c plain follows.compact)) short
+
+-- and so is one without moves, in a file of any version
+pub line_of_short : (text game order : List ℕ) (c : Command) → text ≡ line_text game order → are_plain game ≡ true
+    → ((version : Version) → IsOrderText version order false c) → length text ≤ MAX_LINE → (version : Version) → line_of version text ≡ line.Command game c
+line_of_short text game order c begins plain follows short version = line_of_compact version text game order false c begins plain (follows version) short

@@ -125,7 +125,7 @@ fn may_be_short(line: &[u8]) -> bool
 
 /// Parses a line in its compact form whose command has neither a setup nor moves, in a file of any
 /// version; `None` for any other line.
-#[tactic(auto, using(crate::proofs::CompactLines::line_of_compact))]
+#[tactic(auto, using(crate::proofs::CompactLines::line_of_short))]
 #[inline(always)]
 pub fn read_short<'l>(line: &'l [u8]) -> Option<ShortLine<'l>>
     ensures { IfSome result (λ found. (version : AnyVersion) → line_of version line.now ≡ a_line.Command found.game (command_of_short found.command)) }
