@@ -20,7 +20,7 @@ module _ {most : ℕ} (b : Inside most) (ok : IsBlock most b) where
   kept len p xs at region holds le =
       let is : somes (take len p.slots) ≡ xs = ap somes holds ∙ somes_map xs in
       let long : len ≡ length xs = omega (arith, ap length holds, length-map xs Some, length-take len p.slots, region, ok.base.1, le) in
-      (record { capacity = ok.capacity; base = (ok.base.0 ∙ sym at, region ∙ ok.base.1); deed = ok.deed; len = (le, long ∙ sym (ap length is)); written = holds ∙ ap (map Some) (sym is) }, is)
+      (record { capacity = ok.capacity; base = (ok.base.0 ∙ sym at, region ∙ ok.base.1); origin = ok.origin; len = (le, long ∙ sym (ap length is)); written = holds ∙ ap (map Some) (sym is) }, is)
 
   -- bytes are appended
   pub grown : (p : Region) (n : ℕ) (ws : List ℕ) → p.at ≡ b.region.at → p.slots ≡ spliced b.region.slots b.len n ws → length ws ≡ n → b.len + n ≤ most

@@ -3,6 +3,7 @@
 --     base_vals, base_tells      the machine value of a `Base`
 --     run_out, run_in      a run of places is taken out of the row, and put back, with whatever it
 --                          then holds
+--     cut, glue      a row is cut in two, and two rows become one
 --     one_room      one place is room for a byte, whatever it holds
 --     of_room, to_room      room for an array of bytes is a row of unwritten places, and a row of
 --                           any places is room
@@ -65,12 +66,12 @@ module _ {M : Type 1} {𝓤 : Ura M} (𝓛 : Logic 𝓤) where
 module _ {M : Type 1} {𝓤 : Ura M} (𝓛 : Logic 𝓤) (b : ℕ) where
   open 𝓛 use {H}
 
-  cut : (xs ys : List (Option ℕ)) (o at : ℕ) → at ≡ length xs + o → ent 𝓤 (sem 𝓛 (row b o (xs ++ ys))) (sep 𝓤 (sem 𝓛 (row b o xs)) (sem 𝓛 (row b at ys)))
+  pub cut : (xs ys : List (Option ℕ)) (o at : ℕ) → at ≡ length xs + o → ent 𝓤 (sem 𝓛 (row b o (xs ++ ys))) (sep 𝓤 (sem 𝓛 (row b o xs)) (sem 𝓛 (row b at ys)))
   cut [] ys o at e = qed 𝓛 (‵ (row b o ys) ∷ []) ∵ rewrite ! 0 (λ (k : ℕ). ‵ (row b k ys)) {x = at} (omega arith) refl $ nothing ! $ done !
   cut (x ∷ xs) ys o at e = qed 𝓛 (‵ (row b o (x ∷ xs ++ ys)) ∷ []) ∵ fsplit ! $ move ! (1 ∷ []) $
       use1 𝓛 (‵ (row b (o + 1) xs) ⊛ ‵ (row b at ys)) (cut xs ys (o + 1) at (omega arith)) $ split ! $ move ! (2 ∷ 0 ∷ []) $ fjoin ! $ done !
 
-  glue : (xs ys : List (Option ℕ)) (o at : ℕ) → at ≡ length xs + o → ent 𝓤 (sep 𝓤 (sem 𝓛 (row b o xs)) (sem 𝓛 (row b at ys))) (sem 𝓛 (row b o (xs ++ ys)))
+  pub glue : (xs ys : List (Option ℕ)) (o at : ℕ) → at ≡ length xs + o → ent 𝓤 (sep 𝓤 (sem 𝓛 (row b o xs)) (sem 𝓛 (row b at ys))) (sem 𝓛 (row b o (xs ++ ys)))
   glue [] ys o at e = qed 𝓛 (‵ ftrue ∷ ‵ (row b at ys) ∷ []) ∵ skip ! $ rewrite ! 0 (λ (k : ℕ). ‵ (row b k ys)) {x = o} (omega arith) refl $ done !
   glue (x ∷ xs) ys o at e = qed 𝓛 (‵ (row b o (x ∷ xs)) ∷ ‵ (row b at ys) ∷ []) ∵ fsplit ! $ move ! (1 ∷ 2 ∷ []) $
       use2 𝓛 (‵ (row b (o + 1) (xs ++ ys))) (glue xs ys (o + 1) at (omega arith)) $ move ! (1 ∷ 0 ∷ []) $ fjoin ! $ done !

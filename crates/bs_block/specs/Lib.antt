@@ -1,5 +1,6 @@
 pub mod BlockLends
 pub mod Bytes
 pub mod Ownership
+pub mod Returns
 pub mod Rounding
 pub mod inner

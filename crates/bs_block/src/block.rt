@@ -1,9 +1,10 @@
 //! A block and its calls. A clause sees a block as the list of its bytes.
-ghost use Rattle.std.specs.Prelude.{◌≡◌, ◌+◌, ◌-◌, ◌≤◌, [], ◌++◌, length, take, replicate, IfOk, MatchOption, IsTrue, ◌↔◌};
+ghost use Rattle.std.specs.Prelude.{◌≡◌, ◌+◌, ◌-◌, ◌≤◌, [], ◌++◌, length, take, replicate, IfOk, OnOk, MatchOption, IsTrue, ◌↔◌};
 ghost use Rattle.std.specs.Borrow.{sem};
 ghost use Rattle.bs_block.specs.Bytes.{IsCapacity, HasRoom, Overflows, Pushes, range};
 ghost use Rattle.bs_block.specs.Rounding.{rounded};
 
+use crate::group::{Member, Piece, Pieces};
 use crate::raw::{Base, Deed, Region, allocate, deallocate};
 use crate::rounding::round_up;
 use std::alloc::{AllocError, Global};
@@ -12,14 +13,25 @@ use std::marker::Model;
 /// The most bytes that a block may have.
 pub const MOST_CAPACITY: usize = 1_073_741_824;
 
-/// One allocation of `CAP` bytes, seen as the list of those in use. `CAP` is a multiple of `UNIT`,
-/// from `UNIT` to `MOST_CAPACITY`. Each append takes its size rounded up to a multiple of `UNIT`.
-/// The block alone owns its bytes; dropping it frees them.
+/// The most blocks that one allocation may have.
+pub const MOST_BLOCKS: usize = 32;
+
+/// Whose allocation the bytes of a block are part of.
+pub enum Origin {
+    /// The block's own.
+    Alone(Deed<Global>),
+    /// That of a group.
+    Grouped(Member),
+}
+
+/// `CAP` bytes, seen as the list of those in use. `CAP` is a multiple of `UNIT`, from `UNIT` to
+/// `MOST_CAPACITY`. Each append takes its size rounded up to a multiple of `UNIT`. The block alone
+/// owns its bytes; dropping it frees them, those of a group once each of its blocks is dropped.
 pub struct Block<const CAP: usize> {
     base: Base,
     len: usize,
     region: Region,
-    deed: Deed<Global>,
+    origin: Origin,
     alloc: Global,
 }
 
@@ -38,8 +50,8 @@ impl<const CAP: usize> Model for Block<CAP> {
 impl<const CAP: usize> Block<CAP> {
     ghost use Rattle.bs_block.specs.BlockLends.{lends_range, lends_fresh, lends_fresh_if};
 
-    /// Makes an empty block. Only this call allocates: `CAP` bytes at once, of which it writes
-    /// none. The error is the allocator's.
+    /// Makes an empty block of one allocation. Writes none of its bytes. The error is the
+    /// allocator's.
     pub fn new(alloc: Global) -> Result<Self, AllocError>
         requires { IsCapacity CAP }
         ensures { IfOk result (λ b. b ≡ []) }
@@ -49,9 +61,50 @@ impl<const CAP: usize> Block<CAP> {
             base,
             len: 0,
             region,
-            deed,
+            origin: Origin::Alone(deed),
             alloc,
         })
+    }
+
+    /// Makes `n` empty blocks of one allocation and appends them. Writes none of their bytes. The
+    /// error is the allocator's.
+    pub fn append_group(
+        alloc: Global,
+        n: usize,
+        blocks: &mut Vec<Block<CAP>>,
+    ) -> Result<(), AllocError>
+        requires capacity { IsCapacity CAP }
+        requires few { n ≤ MOST_BLOCKS }
+        ensures { OnOk result (blocks.new.items ≡ blocks.old.items ++ replicate n []) }
+    {
+        blocks.reserve(n)?;
+        let mut left = Pieces::open(alloc, CAP, n)?;
+        for _ in 0..n {
+            let (piece, others) = left.cut()?;
+            left = others;
+            blocks.push_reserved(Block::of(alloc, piece));
+        }
+        Ok(())
+    }
+
+    /// The empty block of a piece.
+    fn of(alloc: Global, piece: Piece) -> Self
+        requires capacity { IsCapacity CAP }
+        requires len { piece.member.len ≡ CAP }
+        ensures { result ≡ [] }
+    {
+        let Piece {
+            base,
+            region,
+            member,
+        } = piece;
+        Block {
+            base,
+            len: 0,
+            region,
+            origin: Origin::Grouped(member),
+            alloc,
+        }
     }
 
     /// The number of bytes in use.
@@ -200,9 +253,12 @@ impl<const CAP: usize> Drop for Block<CAP> {
             base,
             len: _,
             region,
-            deed,
+            origin,
             alloc,
         } = self;
-        deallocate(&alloc, base, CAP, region, deed);
+        match origin {
+            Origin::Alone(deed) => deallocate(&alloc, base, CAP, region, deed),
+            Origin::Grouped(member) => member.end(region),
+        }
     }
 }

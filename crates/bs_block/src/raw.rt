@@ -1,9 +1,9 @@
 //! The places of a block, each unwritten or holding a byte. All raw pointers of the crate are here.
-ghost use Rattle.std.specs.Prelude.{◌≡◌, ℕ, ◌+◌, ◌<◌, ◌≤◌, ◌^◌, List, [], ◌∷◌, Option, Some, None, map, length, take, drop, replicate, IfOk, ⊤};
+ghost use Rattle.std.specs.Prelude.{◌≡◌, ℕ, ◌+◌, ◌<◌, ◌≤◌, ◌^◌, List, [], ◌∷◌, ◌++◌, Option, Some, None, map, length, take, drop, replicate, IfOk, ⊤};
 ghost use Rattle.std.specs.Borrow.{sem};
 ghost use base.Fml.{ftrue};
-ghost use denote.RawPtr.{Ptr};
-ghost use Rattle.bs_block.specs.inner.Region.{IsRun, spliced};
+ghost use denote.RawPtr.{Ptr, ◌+ₚ◌};
+ghost use Rattle.bs_block.specs.inner.Region.{IsThere, IsRun, spliced};
 ghost use Rattle.bs_block.specs.Ownership.{region_own, region_lent, deed_owns};
 
 use std::alloc::{AllocError, Allocator};
@@ -26,6 +26,17 @@ impl Clone for Base {
 }
 
 impl Copy for Base {}
+
+impl Base {
+    /// Where the place number `at` begins.
+    pub(crate) fn at(self, at: usize) -> Base
+        requires { IsThere self.ptr }
+        ensures { result.ptr ≡ self.ptr +ₚ at }
+    {
+        let ptr = unsafe { self.ptr.add(at) };
+        Base { ptr }
+    }
+}
 
 unsafe impl Send for Base {}
 
@@ -73,7 +84,7 @@ pub(crate) fn allocate<A: Allocator>(
     len: usize,
 ) -> Result<(Base, Region, Deed<A>), AllocError>
     requires { len < 2 ^ 63 }
-    ensures { IfOk result (λ r. (r.1.at ≡ r.0.ptr) × (r.1.slots ≡ replicate len None) × (r.2.at ≡ r.0.ptr) × (r.2.len ≡ len) × (r.2.alloc ≡ alloc.now)) }
+    ensures { IfOk result (λ r. (r.1.at ≡ r.0.ptr) × (r.1.slots ≡ replicate len None) × (r.2.at ≡ r.0.ptr) × (r.2.len ≡ len) × (r.2.alloc ≡ alloc.now) × IsThere r.0.ptr) }
 {
     match alloc.allocate(len, 1) {
         Ok(ptr) => Ok((
@@ -130,6 +141,39 @@ impl Region {
                 slice::from_raw_parts_mut(base.ptr.add(at), n),
             )
         }
+    }
+}
+
+impl Region {
+    /// Gives the places up: they are never freed.
+    pub(crate) fn forget(self) {
+        let Region { mark: _ } = self;
+    }
+
+    /// The first `at` places, and the others.
+    pub(crate) fn cut(self, at: usize) -> (Region, Region)
+        requires { at ≤ length self.slots }
+        ensures { (result.0.at ≡ self.at) × (result.0.slots ≡ take at self.slots) × (result.1.at ≡ self.at +ₚ at) × (result.1.slots ≡ drop at self.slots) }
+    {
+        let Region { mark: _ } = self;
+        (Region { mark: PhantomData }, Region { mark: PhantomData })
+    }
+
+    /// The places of both. The second begins where the first ends.
+    pub(crate) fn join(self, next: Region) -> Region
+        requires { (next.at ≡ self.at +ₚ length self.slots) × (length self.slots + length next.slots < 2 ^ 63) }
+        ensures { (result.at ≡ self.at) × (result.slots ≡ self.slots ++ next.slots) }
+    {
+        let Region { mark: _ } = self;
+        let Region { mark: _ } = next;
+        Region { mark: PhantomData }
+    }
+}
+
+impl<A: Allocator> Deed<A> {
+    /// Gives the right up: the bytes are never freed.
+    pub(crate) fn forget(self) {
+        let Deed { mark: _ } = self;
     }
 }
 

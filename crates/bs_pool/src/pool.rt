@@ -13,7 +13,7 @@ use crate::reservation::{
     Account, Reservation, Reserve, all_reserved, count_drawn, count_given, counted, is_reserved,
     reserved_by, withdraw,
 };
-use crate::slot::{Slot, count_free, gather, home_slots, new_slots};
+use crate::slot::{Slot, count_free, gather, home_slots, new_blocks};
 use crate::words::{first_marked, mark, new_words, unmark};
 use bs_block::Block;
 use std::alloc::{AllocError, Global};
@@ -54,11 +54,8 @@ impl<const CAP: usize> Pool<CAP> {
         requires { IsCapacity CAP }
         ensures { IfOk result (λ pool. pool ≡ opened n) }
     {
-        Ok(Pool {
-            slots: new_slots(alloc, n)?,
-            reservations: Vec::new(alloc),
-            words: new_words(alloc, n)?,
-        })
+        let mut blocks = new_blocks(alloc, n)?;
+        Pool::from_blocks(alloc, &mut blocks, n)
     }
 
     /// Makes a pool of `n` free blocks without reservations from the last `n` of the blocks. The

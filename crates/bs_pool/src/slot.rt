@@ -5,7 +5,7 @@ ghost use Rattle.bs_block.specs.Bytes.{IsCapacity};
 ghost use Rattle.std.specs.Option.{is_some};
 ghost use Rattle.bs_pool.specs.Ledger.{is_unowned};
 
-use bs_block::Block;
+use bs_block::{Block, MOST_BLOCKS};
 use std::alloc::{AllocError, Global};
 use std::marker::Model;
 use std::mem;
@@ -98,19 +98,22 @@ impl<const CAP: usize> Slot<CAP> {
     }
 }
 
-/// Makes the slots of `n` new blocks.
-pub(crate) fn new_slots<const CAP: usize>(
+/// Makes `n` new blocks, as many to an allocation as one may have.
+pub(crate) fn new_blocks<const CAP: usize>(
     alloc: Global,
     n: usize,
-) -> Result<Vec<Slot<CAP>>, AllocError>
+) -> Result<Vec<Block<CAP>>, AllocError>
     requires { IsCapacity CAP }
-    ensures { IfOk result (λ slots. slots.items ≡ replicate n None) }
+    ensures { IfOk result (λ blocks. length blocks.items ≡ n) }
 {
-    let mut slots = Vec::with_capacity(alloc, n)?;
-    for _ in 0..n {
-        slots.push(Slot::home(Block::new(alloc)?))?;
+    let mut blocks = Vec::with_capacity(alloc, n)?;
+    let mut left = n;
+    while left > 0 {
+        let few = left.min(MOST_BLOCKS);
+        Block::append_group(alloc, few, &mut blocks)?;
+        left -= few;
     }
-    Ok(slots)
+    Ok(blocks)
 }
 
 /// The number of free blocks.

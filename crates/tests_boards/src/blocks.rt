@@ -1,5 +1,5 @@
 //! The calls of small blocks; and a test that new blocks take no memory until they are written.
-use bs_block::{Block, round_up};
+use bs_block::{Block, MOST_BLOCKS, round_up};
 use bs_samples::{holds, same};
 use std::marker::{Send, Sync};
 use std::test::Fail;
@@ -112,4 +112,30 @@ fn opens_and_drops_4096_blocks_of_2_mebibytes(rt: HostRuntime) -> Result<(), Fai
         blocks.push(Block::<2_097_152>::new(rt.alloc())?)?;
     }
     same("blocks", blocks.len(), 4096)
+}
+
+/// Pushes the number of each block into it, and compares it in each.
+fn check_own_bytes(blocks: &mut [Block<64>]) -> Result<(), Fail> {
+    for (number, block) in blocks.iter_mut().enumerate() {
+        check_push("a byte", block, &[number as u8], Some(0))?;
+    }
+    for (number, block) in blocks.iter().enumerate() {
+        check_bytes("its byte", block, 0, &[number as u8])?;
+    }
+    Ok(())
+}
+
+#[test]
+fn blocks_of_a_group_have_bytes_of_their_own(rt: HostRuntime) -> Result<(), Fail> {
+    let mut blocks = Vec::new(rt.alloc());
+    Block::append_group(rt.alloc(), 3, &mut blocks)?;
+    Block::append_group(rt.alloc(), 0, &mut blocks)?;
+    Block::append_group(rt.alloc(), MOST_BLOCKS, &mut blocks)?;
+    same("blocks", blocks.len(), 35)?;
+    check_own_bytes(blocks.as_mut_slice())?;
+
+    drop(crosses_threads(blocks.pop()));
+    same("blocks that are left", blocks.len(), 34)?;
+    let first = blocks.first().ok_or("no block is left")?;
+    check_bytes("the byte of the first", first, 0, &[0])
 }

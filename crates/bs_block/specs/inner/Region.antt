@@ -1,5 +1,10 @@
 -- The places of a block: each is unwritten or holds a byte.
 use Rattle.std.specs.Prelude.{◌≡◌, ℕ, ◌+◌, ◌≤◌, List, [], ◌∷◌, ◌++◌, map, length, take, drop, Option, Some, None}
+use denote.RawPtr.{Ptr, block_ptr, block_of, count_of}
+
+-- it is not null
+abbrev pub IsThere : Ptr → Type 0
+IsThere p = p ≡ block_ptr (block_of p) (count_of p)
 
 -- the bytes that were written
 abbrev pub somes : List (Option ℕ) → List ℕ

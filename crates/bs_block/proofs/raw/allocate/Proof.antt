@@ -143,7 +143,7 @@ allocate_spec 𝓤 𝓛 𝓜 𝓡 wired W LW g d dd met md =
     use3 𝓛 (‵ ((Parts Z).own_val parts (made ∷ []))) (triple_of 𝓛 B.the_row P.the_row (D.the_row (Handle Z) g) base region deed (word p) mark mark) $
     use1 𝓛 (‵ ((Out Z).own_val (Ok parts) (live 0 (vcons made vnil) ∷ []))) (ok_of 𝓛 (Parts Z) AE.the_row parts made) $
     returns ! (look_at ! 0 refl) $ free_all ! refl $
-    suffices ! _ (ends_at 𝓛 E hs c y (live 0 (vcons made vnil)) (Ok parts) (tt, (tt, tt)) (tt, (tt, tt))) $ says ! (refl, refl, refl, refl, refl) $
+    suffices ! _ (ends_at 𝓛 E hs c y (live 0 (vcons made vnil)) (Ok parts) (tt, (tt, tt)) (tt, (tt, tt))) $ says ! (refl, refl, refl, refl, refl, refl) $
     move ! (1 ∷ 2 ∷ []) $ join ! $ frame ! $ nothing ! $ nothing ! $ join ! $ nothing ! $ join ! $ frame ! $ done !)
     (λ e.
     let Refusal : RattleType = Struct (Declared.shape AE.the_type) in
