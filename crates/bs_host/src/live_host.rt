@@ -103,7 +103,7 @@ impl LiveHost {
     }
 
     /// Routes and executes the next line, and appends its answer.
-    fn answer(
+    pub(crate) fn answer(
         &mut self,
         alloc: Global,
         line: &[u8],
@@ -117,25 +117,6 @@ impl LiveHost {
         let route = route_line(&mut self.stays, self.blocks, parsed);
         self.follow(alloc, &route, text)?;
         self.number = number;
-        Ok(())
-    }
-
-    /// Answers the lines of a text, split at its line feeds, one after the other.
-    pub(crate) fn answer_all(
-        &mut self,
-        alloc: Global,
-        lines: &[u8],
-        text: &mut TextBuffer,
-    ) -> Result<(), AllocError>
-        ensures host { OnOk result (self.new ≡ fold live_after self.old (pieces_of lines.now)) }
-        ensures text { OnOk result (text.new.bytes ≡ text.old.bytes ++ live_texts self.old (pieces_of lines.now)) }
-    {
-        let mut left = Some(lines);
-        'lines: while let Some(lines) = left {
-            let (line, more) = split_line(lines);
-            self.answer(alloc, line, text)?;
-            left = more;
-        }
         Ok(())
     }
 
