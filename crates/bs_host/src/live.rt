@@ -5,6 +5,7 @@ ghost use Rattle.std.specs.Io.KnownBytes.{Appends, Consumes, IsAtEnd};
 ghost use Rattle.std.specs.List.{position};
 ghost use Rattle.bs_board.specs.declared.plans.version.Version.{Version};
 ghost use Rattle.bs_board.specs.plans.Plan.{GameRow};
+ghost use Rattle.bs_host.specs.declared.limits.TheConstants.{LONG_TEXT};
 ghost use Rattle.bs_host.specs.declared.lines.TheConstants.{LINE_FEED};
 ghost use Rattle.bs_json.specs.declared.limits.TheConstants.{MAX_LINE};
 ghost use Rattle.bs_host.specs.File.{pieces_of};
@@ -16,6 +17,7 @@ ghost use Rattle.bs_host.specs.inner.LiveFaults.{IsReadFault, LeavesLines, Leave
 
 use crate::calls::ReadCalls;
 use crate::fault::Fault;
+use crate::limits::LONG_TEXT;
 use crate::lines::{first_feed, last_feed, split_first, split_line};
 use crate::live_host::LiveHost;
 use bs_json::{MAX_LINE, TextBuffer};
@@ -25,10 +27,6 @@ use std::io::{Read, Write};
 
 /// The largest number of bytes of one read.
 const BLOCK: usize = 8_192;
-
-/// Answers are written once they have this number of bytes, and when no complete line is left. At
-/// most this number of bytes and one answer are held.
-const LONG_TEXT: usize = 65_536;
 
 /// Writes the text and flushes the writer. Counts in `written` the bytes that it took.
 fn write_out<W: Write, C: WriteCalls<W>>(
@@ -87,6 +85,7 @@ fn answer_lines<W: Write, C: WriteCalls<W>>(
     output: &mut W,
 ) -> Result<(), Fault>
     ensures answered { OnOk result (HasAnswers answers.old answers.new (pieces_of lines.now) [] (W.contents output.old) (W.contents output.new)) }
+    ensures held { OnOk result (length answers.new.text.bytes < LONG_TEXT) }
     ensures left { IfErr result (LeavesTexts answers.old (pieces_of lines.now) (W.contents output.old) (W.contents output.new)) }
     ensures failed { IfErr result (HasLiveCause ⊥ (C.has_failed output.new)) }
 {
@@ -217,7 +216,9 @@ fn end_live<W: Write, C: WriteCalls<W>>(
 {
     let answers = &mut flow.answers;
     answers.text.clear();
-    answers.host.answer(alloc, &flow.pending, &mut answers.text)?;
+    answers
+        .host
+        .answer(alloc, &flow.pending, &mut answers.text)?;
     answers.host.close(alloc, &mut answers.text)?;
     write_answers::<W, C>(answers, output)?;
     Ok(())

@@ -1,18 +1,17 @@
 //! A live host between two lines: an automaton over the lines.
-ghost use Rattle.std.specs.Prelude.{◌≡◌, ◌++◌, true, fold, IfOk, IfErr, OnOk};
+ghost use Rattle.std.specs.Prelude.{◌≡◌, ◌<◌, ◌++◌, true, length, IfOk, IfErr, OnOk};
 ghost use Rattle.bs_json.specs.Replies.{stray_line_of};
 ghost use Rattle.bs_json.specs.PlanLine.{plan_line_of};
 ghost use Rattle.bs_host.specs.Faults.{refusal_of_plan};
-ghost use Rattle.bs_host.specs.File.{pieces_of};
+ghost use Rattle.bs_host.specs.declared.limits.TheConstants.{LONG_TEXT};
 ghost use Rattle.bs_host.specs.inner.Live.{HasOpened};
 ghost use Rattle.bs_host.specs.inner.LiveFaults.{IsLiveRefusal};
 ghost use Rattle.bs_host.specs.inner.OpenStays.{may_follow};
 ghost use Rattle.bs_registry.specs.Registry.{seen};
-ghost use Rattle.bs_host.specs.inner.LiveHost.{live_after, live_end, live_text, live_texts, stays_then, text_then};
+ghost use Rattle.bs_host.specs.inner.LiveHost.{live_after, live_end, live_text, stays_then, text_then};
 
 use crate::fault::{Fault, PlanRefusal};
 use crate::limits::BLOCK_BYTES;
-use crate::lines::split_line;
 use crate::live_stays::{LiveStays, answer_in, list_stays, open_stay, push_final_of, push_finals};
 use crate::parse::parse_line;
 use crate::route::{Route, route_line};
@@ -102,13 +101,14 @@ impl LiveHost {
         }
     }
 
-    /// Routes and executes the next line, and appends its answer.
+    /// Routes and executes the next line, and appends its answer to a text that is not long.
     pub(crate) fn answer(
         &mut self,
         alloc: Global,
         line: &[u8],
         text: &mut TextBuffer,
     ) -> Result<(), AllocError>
+        requires { length text.old.bytes < LONG_TEXT }
         ensures host { OnOk result (self.new ≡ live_after self.old line.now) }
         ensures text { OnOk result (text.new.bytes ≡ text.old.bytes ++ live_text self.old line.now) }
     {
