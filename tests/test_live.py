@@ -20,6 +20,8 @@ from cases import lines_by_game
 from program import ROOT, line, run, run_bytes, text_of
 
 SECONDS = 300  # the limit of an answer, on a busy machine
+PACKET = 4_096  # bytes of a packet of a packet pipe
+LONG_TEXT = 65_536  # bytes of answers that are written before the next line is answered
 MOST_LINE = 65_536  # bytes of a line
 MOST_GAMES = 64  # that are open at once
 SEED = 7
@@ -322,6 +324,55 @@ class TestPrompt:
         for number in range(sent):
             reply = json.loads(self.talk.lines(1)[0])
             assert (reply["seq"], reply["board"]) == (number + 2, started["board"])
+
+
+class TestWrites:
+    """The writes of a host whose output is a packet pipe: whole packets and a shorter last one."""
+
+    @pytest.fixture(autouse=True)
+    def begin(self):
+        self.reader, writer = os.pipe2(os.O_DIRECT)
+        self.run = subprocess.Popen(
+            [program.path, "live"], stdin=subprocess.PIPE, stdout=writer, bufsize=0
+        )
+        os.close(writer)
+        self.run.stdin.write(line(games=[], version=3).encode() + b"\n")
+        yield
+        self.run.kill()
+        self.run.wait()
+        self.run.stdin.close()
+        os.close(self.reader)
+
+    def ask(self, lines):
+        """The writes of the answers to these lines, which are read at once: a line each."""
+        assert len(lines) <= PACKET
+        self.run.stdin.write(lines)
+        found = []
+        while b"".join(found).count(b"\n") < lines.count(b"\n"):
+            found.append(b"")
+            while len(found[-1]) % PACKET == 0:
+                if not select.select([self.reader], [], [], SECONDS)[0]:
+                    raise TimeoutError(f"{found[-1]!r} and no more")
+                found[-1] += os.read(self.reader, PACKET)
+        return found
+
+    def test_a_read_of_many_lines_is_answered_by_one_write(self):
+        for count in (1, 2, 50, 90):
+            lines = (b"x" * 40 + b"\n") * count
+            assert [answers.count(b"\n") for answers in self.ask(lines)] == [count]
+
+    def test_long_answers_are_written_before_the_last_line_is_answered(self):
+        food = [(x, y) for x in range(25) for y in range(2, 25)]
+        started = line(**new("a", "standard", 25, [("s", 0, 0)], food)).encode() + b"\n"
+        self.run.stdin.write(line(game="a", do="admit", quota=4096).encode() + b"\n")
+        self.run.stdin.write(started[:-1])
+        self.ask(b"\n")
+        *some, last = self.ask((line(game="a", do="show") + "\n").encode() * 150)
+        most = max(map(len, b"".join([*some, last]).splitlines(True)))
+        assert len(some) > 5
+        for answers in some:
+            assert LONG_TEXT <= len(answers) < LONG_TEXT + most
+        assert len(last) < LONG_TEXT + most
 
 
 class TestMemory:

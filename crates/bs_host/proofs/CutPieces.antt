@@ -36,7 +36,7 @@ is_feed byte = eqb byte LINE_FEED
 
 -- the first position of a byte, if there is one, is where a search for it stops
 
-is_not : (b : Bool) → (b ≡ true → ⊥) → b ≡ false
+pub is_not : (b : Bool) → (b ≡ true → ⊥) → b ≡ false
 is_not true never = absurd (never refl)
 is_not false never = refl
 

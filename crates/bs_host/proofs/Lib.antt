@@ -15,6 +15,7 @@ pub mod FoundStays
 pub mod FullStays
 pub mod OpenStayRoutes
 pub mod HostedCore
+pub mod LiveAnswers
 pub mod LiveBytes
 pub mod LiveHeld
 pub mod LiveLaw

@@ -63,7 +63,7 @@ pub held_back : (text : List ℕ) → position is_feed text ≡ None → MAX_LIN
 unfolding held_of
 held_back text none few = λ more. held_at (MAX_LINE + 1) text more none few
 
-none_found : (xs : List ℕ) (found : Option ℕ) → position is_feed xs ≡ found → All (λ byte. is_feed byte ≡ false) xs → found ≡ None
+pub none_found : (xs : List ℕ) (found : Option ℕ) → position is_feed xs ≡ found → All (λ byte. is_feed byte ≡ false) xs → found ≡ None
 none_found xs None is fails = refl
 none_found xs (Some at) is fails =
     let (inside, hit, before) = position-Some is_feed xs at 0 is in

@@ -24,9 +24,8 @@ use Rattle.bs_host.specs.inner.Live.{HasOpened, IsBegun, lines_behind}
 use Rattle.bs_host.specs.LiveFaults.{IsLiveFault, LeavesLive, live_refusal_of}
 use Rattle.bs_host.specs.inner.LiveFaults.{IsLiveRefusal, LeavesLines}
 use Rattle.bs_host.proofs.HostedCore.{no_refusal}
-use Rattle.bs_host.proofs.CutPieces.{fails_everywhere, is_feed}
+use Rattle.bs_host.proofs.CutPieces.{fails_everywhere, is_feed, piece_without_feed}
 use Rattle.bs_host.proofs.LiveHeld.{by_length, in_front, in_front_some, pieces_in_front}
-use Rattle.bs_host.proofs.LivePieces.{no_cut}
 
 -- the opening
 
@@ -120,7 +119,7 @@ at_end : (b : Option (List ℕ)) (left : List ℕ) → b ≡ Some left → IsAtE
 at_end b left some end = subst (λ b. IsAtEnd b) some end
 
 only_pieces : (bytes left : List ℕ) → position is_feed bytes ≡ None → left ≡ [] → pieces_of (bytes ++ left) ≡ bytes ∷ []
-only_pieces bytes left none end = ap (λ more. pieces_of (bytes ++ more)) end ∙ ap pieces_of (append-nil bytes) ∙ no_cut bytes none
+only_pieces bytes left none end = ap (λ more. pieces_of (bytes ++ more)) end ∙ ap pieces_of (append-nil bytes) ∙ piece_without_feed bytes none
 
 only_plans : (b : Option (List ℕ)) (bytes : List ℕ) → position is_feed bytes ≡ None → (length bytes ≤ MAX_LINE → IsAtEnd b)
     → (left : List ℕ) → b ≡ Some left → plan_of (bytes ++ left) ≡ plan_line_of bytes

@@ -379,13 +379,3 @@ unfolding live_text
 told_is host text parsed r old new is goes told =
     let same = route_of_parsed (capacity_of host.blocks) (seen host.stays) (line_of host.version text) in
     rw (goes, is, same) at told
-
--- one more of the lines that are left
-pub one_more_line : (all : LiveHost) (whole : List ℕ) (host new : LiveHost) (line : List ℕ) (left more : List (List ℕ)) (mid text : List ℕ) → left ≡ line ∷ more
-    → new ≡ live_after host line → text ≡ mid ++ live_text host line → fold live_after host left ≡ all → mid ++ live_texts host left ≡ whole
-    → (fold live_after new more ≡ all) × (text ++ live_texts new more ≡ whole)
-one_more_line all whole host new line left more mid text is moved told same so_far = (
-  ap (λ first. fold live_after first more) moved ∙ ap (fold live_after host) (sym is) ∙ same,
-  ap (λ all. all ++ live_texts new more) told ∙ append_assoc mid (live_text host line) (live_texts new more)
-      ∙ ap (λ first. mid ++ (live_text host line ++ live_texts first more)) moved ∙ ap (λ lines. mid ++ live_texts host lines) (sym is) ∙ so_far,
-)

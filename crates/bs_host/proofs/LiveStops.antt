@@ -18,7 +18,7 @@ use Rattle.bs_host.proofs.LiveBytes.{appends_both, appends_kept, appends_none}
 use Rattle.bs_host.proofs.LiveHeld.{answers_same, live_same, map_both}
 use Rattle.bs_host.proofs.LiveTexts.{answers_append}
 
-take_both : (xs text rest : List ℕ) (n : ℕ) → n ≤ length text → take (length xs + n) ((xs ++ text) ++ rest) ≡ xs ++ take n text
+pub take_both : (xs text rest : List ℕ) (n : ℕ) → n ≤ length text → take (length xs + n) ((xs ++ text) ++ rest) ≡ xs ++ take n text
 take_both xs text rest n few =
     ap (take (length xs + n)) (append_assoc xs text rest) ∙ take-append-add xs (text ++ rest) n ∙ ap (λ t. xs ++ t) (take-append-le n text rest few)
 
@@ -28,7 +28,7 @@ module _ (blocks : ℕ) (version : Version) (plan : List GameRow) where
       sym (answers_same blocks version plan [] a) ∙ ap (answers_from blocks version plan []) same ∙ answers_same blocks version plan [] b
 
   -- if the kept bytes of the first lines are these, their answers are whole answers
-  first_of : (lines done more : List (List ℕ)) (old new : Option (List ℕ)) → map held_of lines ≡ map held_of done ++ more
+  pub first_of : (lines done more : List (List ℕ)) (old new : Option (List ℕ)) → map held_of lines ≡ map held_of done ++ more
       → Appends old new (answers_from blocks version plan [] done) → HasFirstAnswers blocks version plan lines old new
   first_of lines done more old new same wrote =
       let many = ap length same in

@@ -5,6 +5,7 @@ pub mod File
 pub mod Hosted
 pub mod Laws
 pub mod Live
+pub mod LiveAnswers
 pub mod LiveFaults
 pub mod LiveHost
 pub mod OpenStays

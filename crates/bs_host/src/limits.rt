@@ -10,3 +10,7 @@ pub const MOST_FILE_BYTES: usize = 16_777_216;
 
 /// A line opens at most one stay, so a file opens no more stays than a core has rows for.
 const _: () = prove!(MOST_ROWS + MOST_FILE_BYTES <= MOST_STAYS);
+
+/// A live host writes its answers once they have this number of bytes, before the next line. So at
+/// most this number of bytes and one answer are held.
+pub(crate) const LONG_TEXT: usize = 65_536;

@@ -1,5 +1,5 @@
 //! The lines of a file, split off one by one.
-ghost use Rattle.std.specs.Prelude.{◌≡◌, ◌==◌, ◌+◌, ◌<◌, ◌≤◌, ◌^◌, [], ◌∷◌, ◌++◌, length, option_copied, slice_index_or, true, IfSome, IsNone, None};
+ghost use Rattle.std.specs.Prelude.{◌≡◌, ◌==◌, ◌+◌, ◌<◌, ◌≤◌, ◌^◌, [], ◌∷◌, ◌++◌, length, take, drop, option_copied, slice_index_or, true, IfSome, IsNone, None};
 ghost use Rattle.bs_host.specs.inner.Live.{IsBegun, IsCutLast};
 ghost use Rattle.std.specs.List.{position};
 ghost use Rattle.bs_host.specs.File.{pieces_of};
@@ -51,28 +51,13 @@ pub(crate) fn split_first(bytes: &[u8]) -> (&[u8], Option<&[u8]>)
     }
 }
 
-/// The line feed at which some complete lines end: the last one within the first `most` bytes, or
-/// else the first one.
-#[tactic(auto, using(crate::proofs::LivePieces::feed_there))]
-fn some_feed(bytes: &[u8], most: usize) -> Option<usize>
-    ensures some { IfSome result (λ at. at < length bytes.now) }
-    ensures feed { IfSome result (λ at. (slice_index_or bytes.now at 0 == LINE_FEED) ≡ true) }
-    ensures none { IsNone result → position (λ byte. byte == LINE_FEED) bytes.now ≡ None }
-{
-    match memrchr(LINE_FEED, &bytes[..bytes.len().min(most)]) {
-        Some(at) => Some(at),
-        None => first_feed(bytes),
-    }
-}
-
-/// Splits off some complete lines, if there is one: those within the first `most` bytes, or else
-/// the first line.
+/// The index of the last line feed, if there is one.
 #[tactic(auto, using(crate::proofs::LivePieces::last_cut))]
-pub(crate) fn split_some(bytes: &[u8], most: usize) -> Option<(&[u8], &[u8])>
-    ensures cut { IfSome result (λ cut. IsCutLast bytes.now cut.0.now cut.1.now) }
-    ensures fewer { IfSome result (λ cut. length cut.1.now < length bytes.now) }
+pub(crate) fn last_feed(bytes: &[u8]) -> Option<usize>
+    ensures some { IfSome result (λ at. at < length bytes.now) }
+    ensures cut { IfSome result (λ at. IsCutLast bytes.now (take at bytes.now) (drop (at + 1) bytes.now)) }
+    ensures behind { IfSome result (λ at. position (λ byte. byte == LINE_FEED) (drop (at + 1) bytes.now) ≡ None) }
     ensures none { IsNone result → position (λ byte. byte == LINE_FEED) bytes.now ≡ None }
 {
-    let at = some_feed(bytes, most)?;
-    Some((&bytes[..at], &bytes[at + 1..]))
+    memrchr(LINE_FEED, bytes)
 }

@@ -1,21 +1,24 @@
 //! Serves a command file while it is read: answers each line as soon as it is complete. The output
 //! is a function of the lines alone: their answers, in order.
-ghost use Rattle.std.specs.Prelude.{◌≡◌, ◌≢◌, ◌↔◌, ◌==◌, ◌+◌, ◌<◌, ◌≤◌, None, IsTrue, ℕ, true, false, List, [], ◌++◌, length, Option, option_copied, IfOk, IfErr, IfSome, OnOk};
+ghost use Rattle.std.specs.Prelude.{◌≡◌, ◌≢◌, ◌↔◌, ◌==◌, ◌+◌, ◌<◌, ◌≤◌, None, IsTrue, ℕ, true, false, List, [], ◌++◌, drop, length, Option, option_copied, IfOk, IfErr, IfSome, OnOk};
 ghost use Rattle.std.specs.Io.KnownBytes.{Appends, Consumes, IsAtEnd};
 ghost use Rattle.std.specs.List.{position};
 ghost use Rattle.bs_board.specs.declared.plans.version.Version.{Version};
 ghost use Rattle.bs_board.specs.plans.Plan.{GameRow};
+ghost use Rattle.bs_host.specs.declared.limits.TheConstants.{LONG_TEXT};
 ghost use Rattle.bs_host.specs.declared.lines.TheConstants.{LINE_FEED};
 ghost use Rattle.bs_json.specs.declared.limits.TheConstants.{MAX_LINE};
 ghost use Rattle.bs_host.specs.File.{pieces_of};
 ghost use Rattle.bs_host.specs.Live.{LiveLaw, PrefixLaw, TranscriptLaw, live_lines_of, live_of};
 ghost use Rattle.bs_host.specs.inner.Live.{EndsServing, HasAnswered, IsSameText, KeepsServing, StopsAtEnd, StopsServing, lines_behind};
+ghost use Rattle.bs_host.specs.inner.LiveAnswers.{HasAnswers, LeavesTexts};
 ghost use Rattle.bs_host.specs.LiveFaults.{HasLiveCause, IsLiveFault, LeavesLive, live_refusal_of};
 ghost use Rattle.bs_host.specs.inner.LiveFaults.{IsReadFault, LeavesLines, LeavesText};
 
 use crate::calls::ReadCalls;
 use crate::fault::Fault;
-use crate::lines::{first_feed, split_first, split_some};
+use crate::limits::LONG_TEXT;
+use crate::lines::{first_feed, last_feed, split_first, split_line};
 use crate::live_host::LiveHost;
 use bs_json::{MAX_LINE, TextBuffer};
 use bs_transcript::{Unrecorded, WriteCalls, write_all_by};
@@ -24,10 +27,6 @@ use std::io::{Read, Write};
 
 /// The largest number of bytes of one read.
 const BLOCK: usize = 8_192;
-
-/// The lines within this number of bytes are answered before their answers are written. A short
-/// line can ask for a long answer, and the answers to these lines are held together.
-const SOME_LINES: usize = 1_024;
 
 /// Writes the text and flushes the writer. Counts in `written` the bytes that it took.
 fn write_out<W: Write, C: WriteCalls<W>>(
@@ -51,41 +50,75 @@ fn write_out<W: Write, C: WriteCalls<W>>(
     Ok(())
 }
 
-/// What is between the reader and the writer.
+/// A host, and its answers that are not written yet.
 #[derive(Drop)]
-pub(crate) struct Flow {
+pub(crate) struct Answers {
     pub(crate) host: LiveHost,
-    /// Bytes that were read: the begin of the next line.
-    pub(crate) pending: Vec<u8>,
-    /// The memory of the answers to the lines of one read.
     pub(crate) text: TextBuffer,
     /// The number of bytes that the writer took.
     pub(crate) written: usize,
 }
 
-/// Answers the first complete lines of the pending bytes, and writes their answers. The rest stays
-/// pending. Returns false if no line is complete.
-fn answer_some<W: Write, C: WriteCalls<W>>(
-    alloc: Global,
-    flow: &mut Flow,
+/// Writes the answers and drops them.
+fn write_answers<W: Write, C: WriteCalls<W>>(
+    answers: &mut Answers,
     output: &mut W,
-) -> Result<bool, Fault>
-    ensures serving { OnOk result (KeepsServing flow.old (W.contents output.old) flow.new (W.contents output.new)) }
-    ensures fewer { IfOk result (λ more. more ≡ true → length flow.new.pending.items < length flow.old.pending.items) }
-    ensures ready { IfOk result (λ more. more ≡ false → position (λ byte. byte == LINE_FEED) flow.new.pending.items ≡ None) }
-    ensures left { IfErr result (StopsServing flow.old (W.contents output.old) (W.contents output.new)) }
+) -> Result<(), Fault>
+    ensures host { OnOk result (answers.new.host ≡ answers.old.host) }
+    ensures dropped { OnOk result (answers.new.text.bytes ≡ []) }
+    ensures text { OnOk result (Appends (W.contents output.old) (W.contents output.new) answers.old.text.bytes) }
+    ensures count { OnOk result (answers.new.written ≡ answers.old.written + length answers.old.text.bytes) }
+    ensures left { IfErr result (LeavesText answers.old.text.bytes answers.old.written (W.contents output.old) (W.contents output.new)) }
     ensures failed { IfErr result (HasLiveCause ⊥ (C.has_failed output.new)) }
 {
-    let Some((front, back)) = split_some(&flow.pending, SOME_LINES) else {
-        return Ok(false);
-    };
-    let mut rest = Vec::new(alloc);
-    rest.extend_from_slice(back)?;
-    flow.text.clear();
-    flow.host.answer_all(alloc, front, &mut flow.text)?;
-    write_out::<W, C>(flow.text.as_slice(), &mut flow.written, output)?;
-    flow.pending = rest;
-    Ok(true)
+    write_out::<W, C>(answers.text.as_slice(), &mut answers.written, output)?;
+    answers.text.clear();
+    Ok(())
+}
+
+/// Answers the lines of a text, split at its line feeds, one after the other. Writes the answers
+/// whenever they are long, and leaves the last ones unwritten.
+fn answer_lines<W: Write, C: WriteCalls<W>>(
+    alloc: Global,
+    lines: &[u8],
+    answers: &mut Answers,
+    output: &mut W,
+) -> Result<(), Fault>
+    ensures answered { OnOk result (HasAnswers answers.old answers.new (pieces_of lines.now) [] (W.contents output.old) (W.contents output.new)) }
+    ensures held { OnOk result (length answers.new.text.bytes < LONG_TEXT) }
+    ensures left { IfErr result (LeavesTexts answers.old (pieces_of lines.now) (W.contents output.old) (W.contents output.new)) }
+    ensures failed { IfErr result (HasLiveCause ⊥ (C.has_failed output.new)) }
+{
+    answers.text.clear();
+    let mut left = Some(lines);
+    'lines: while let Some(lines) = left {
+        let (line, more) = split_line(lines);
+        answers.host.answer(alloc, line, &mut answers.text)?;
+        if answers.text.as_slice().len() >= LONG_TEXT {
+            write_answers::<W, C>(answers, output)?;
+        }
+        left = more;
+    }
+    Ok(())
+}
+
+/// What is between the reader and the writer.
+#[derive(Drop)]
+pub(crate) struct Flow {
+    /// Bytes that were read: the begin of the next line.
+    pub(crate) pending: Vec<u8>,
+    pub(crate) answers: Answers,
+}
+
+/// Drops the first bytes, and moves the others to the front.
+#[tactic(auto, using(crate::proofs::LiveAnswers::moved_front))]
+fn drop_first(bytes: &mut Vec<u8>, count: usize)
+    requires { count ≤ length bytes.old.items }
+    ensures { bytes.new.items ≡ drop count bytes.old.items }
+{
+    let left = bytes.len() - count;
+    bytes.copy_within(count.., 0);
+    bytes.truncate(left);
 }
 
 /// Answers the complete lines of the pending bytes, and writes their answers. The rest stays
@@ -100,10 +133,12 @@ fn answer_ready<W: Write, C: WriteCalls<W>>(
     ensures left { IfErr result (StopsServing flow.old (W.contents output.old) (W.contents output.new)) }
     ensures failed { IfErr result (HasLiveCause ⊥ (C.has_failed output.new)) }
 {
-    let mut more = true;
-    'lines: while more {
-        more = answer_some::<W, C>(alloc, flow, output)?;
-    }
+    let Some(at) = last_feed(&flow.pending) else {
+        return Ok(());
+    };
+    answer_lines::<W, C>(alloc, &flow.pending[..at], &mut flow.answers, output)?;
+    write_answers::<W, C>(&mut flow.answers, output)?;
+    drop_first(&mut flow.pending, at + 1);
     Ok(())
 }
 
@@ -136,6 +171,7 @@ fn read_more<R: Read, C: ReadCalls<R>>(input: &mut R, pending: &mut Vec<u8>) -> 
     ensures bytes { OnOk result
         ((bytes : List ℕ) × Consumes (R.remaining input.old) (R.remaining input.new) bytes × (pending.new.items ≡ pending.old.items ++ bytes)) }
     ensures more { IfOk result (λ more. more ≡ true → length pending.old.items < length pending.new.items) }
+    ensures none { IfOk result (λ more. more ≡ false → pending.new.items ≡ pending.old.items) }
     ensures end { IfOk result (λ more. more ≡ false → IsAtEnd (R.remaining input.new)) }
     ensures fault { IfErr result IsReadFault }
     ensures device { IfErr result (HasLiveCause (C.has_failed input.new) ⊥) }
@@ -166,21 +202,25 @@ fn read_first<R: Read, C: ReadCalls<R>>(alloc: Global, input: &mut R) -> Result<
     Ok(bytes)
 }
 
-/// Answers the pending bytes at the end of the input; writes the answers, and the final lines of
-/// the open stays.
+/// Answers the pending bytes at the end of the input, which are one line; writes the answer, and the
+/// final lines of the open stays.
 fn end_live<W: Write, C: WriteCalls<W>>(
     alloc: Global,
     flow: &mut Flow,
     output: &mut W,
 ) -> Result<(), Fault>
+    requires { position (λ byte. byte == LINE_FEED) flow.old.pending.items ≡ None }
     ensures written { OnOk result (EndsServing flow.old (W.contents output.old) (W.contents output.new)) }
     ensures left { IfErr result (StopsAtEnd flow.old (W.contents output.old) (W.contents output.new)) }
     ensures failed { IfErr result (HasLiveCause ⊥ (C.has_failed output.new)) }
 {
-    flow.text.clear();
-    flow.host.answer_all(alloc, &flow.pending, &mut flow.text)?;
-    flow.host.close(alloc, &mut flow.text)?;
-    write_out::<W, C>(flow.text.as_slice(), &mut flow.written, output)?;
+    let answers = &mut flow.answers;
+    answers.text.clear();
+    answers
+        .host
+        .answer(alloc, &flow.pending, &mut answers.text)?;
+    answers.host.close(alloc, &mut answers.text)?;
+    write_answers::<W, C>(answers, output)?;
     Ok(())
 }
 
@@ -199,10 +239,12 @@ fn serve_lines<R: Read, W: Write, C: ReadCalls<R> + WriteCalls<W>>(
     ensures failed { IfErr result (HasLiveCause (C.ReadCalls.has_failed input.new) (C.WriteCalls.has_failed output.new)) }
 {
     let mut flow = Flow {
-        host,
         pending: Vec::from_slice(alloc, rest)?,
-        text: TextBuffer::new(alloc),
-        written: 0,
+        answers: Answers {
+            host,
+            text: TextBuffer::new(alloc),
+            written: 0,
+        },
     };
     for _ in 0..u64::MAX {
         answer_ready::<W, C>(alloc, &mut flow, output)?;

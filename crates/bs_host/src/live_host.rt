@@ -1,18 +1,17 @@
 //! A live host between two lines: an automaton over the lines.
-ghost use Rattle.std.specs.Prelude.{◌≡◌, ◌++◌, true, fold, IfOk, IfErr, OnOk};
+ghost use Rattle.std.specs.Prelude.{◌≡◌, ◌<◌, ◌++◌, true, length, IfOk, IfErr, OnOk};
 ghost use Rattle.bs_json.specs.Replies.{stray_line_of};
 ghost use Rattle.bs_json.specs.PlanLine.{plan_line_of};
 ghost use Rattle.bs_host.specs.Faults.{refusal_of_plan};
-ghost use Rattle.bs_host.specs.File.{pieces_of};
+ghost use Rattle.bs_host.specs.declared.limits.TheConstants.{LONG_TEXT};
 ghost use Rattle.bs_host.specs.inner.Live.{HasOpened};
 ghost use Rattle.bs_host.specs.inner.LiveFaults.{IsLiveRefusal};
 ghost use Rattle.bs_host.specs.inner.OpenStays.{may_follow};
 ghost use Rattle.bs_registry.specs.Registry.{seen};
-ghost use Rattle.bs_host.specs.inner.LiveHost.{live_after, live_end, live_text, live_texts, stays_then, text_then};
+ghost use Rattle.bs_host.specs.inner.LiveHost.{live_after, live_end, live_text, stays_then, text_then};
 
 use crate::fault::{Fault, PlanRefusal};
 use crate::limits::BLOCK_BYTES;
-use crate::lines::split_line;
 use crate::live_stays::{LiveStays, answer_in, list_stays, open_stay, push_final_of, push_finals};
 use crate::parse::parse_line;
 use crate::route::{Route, route_line};
@@ -102,13 +101,14 @@ impl LiveHost {
         }
     }
 
-    /// Routes and executes the next line, and appends its answer.
-    fn answer(
+    /// Routes and executes the next line, and appends its answer to a text that is not long.
+    pub(crate) fn answer(
         &mut self,
         alloc: Global,
         line: &[u8],
         text: &mut TextBuffer,
     ) -> Result<(), AllocError>
+        requires { length text.old.bytes < LONG_TEXT }
         ensures host { OnOk result (self.new ≡ live_after self.old line.now) }
         ensures text { OnOk result (text.new.bytes ≡ text.old.bytes ++ live_text self.old line.now) }
     {
@@ -117,25 +117,6 @@ impl LiveHost {
         let route = route_line(&mut self.stays, self.blocks, parsed);
         self.follow(alloc, &route, text)?;
         self.number = number;
-        Ok(())
-    }
-
-    /// Answers the lines of a text, split at its line feeds, one after the other.
-    pub(crate) fn answer_all(
-        &mut self,
-        alloc: Global,
-        lines: &[u8],
-        text: &mut TextBuffer,
-    ) -> Result<(), AllocError>
-        ensures host { OnOk result (self.new ≡ fold live_after self.old (pieces_of lines.now)) }
-        ensures text { OnOk result (text.new.bytes ≡ text.old.bytes ++ live_texts self.old (pieces_of lines.now)) }
-    {
-        let mut left = Some(lines);
-        'lines: while let Some(lines) = left {
-            let (line, more) = split_line(lines);
-            self.answer(alloc, line, text)?;
-            left = more;
-        }
         Ok(())
     }
 

@@ -62,28 +62,28 @@ pub record IsServing (blocks : ℕ) (version : Version) (plan : List GameRow) (a
 abbrev pub KeepsServing : Flow → Option (List ℕ) → Flow → Option (List ℕ) → Type 0
 KeepsServing flow now behind next =
     (blocks : ℕ) (version : Version) (plan : List GameRow) (after : List ℕ) (first : Option (List ℕ))
-    → IsServing blocks version plan after flow.pending.items first now flow.written flow.host
-    → IsServing blocks version plan after behind.pending.items first next behind.written behind.host
+    → IsServing blocks version plan after flow.pending.items first now flow.answers.written flow.answers.host
+    → IsServing blocks version plan after behind.pending.items first next behind.answers.written behind.answers.host
 
 -- it stopped by that fault, whatever would have been read
 abbrev pub StopsServing : Flow → Option (List ℕ) → Option (List ℕ) → Fault → Type 0
 StopsServing flow now next fault =
     (blocks : ℕ) (version : Version) (plan : List GameRow) (after : List ℕ) (first : Option (List ℕ))
-    → IsServing blocks version plan after flow.pending.items first now flow.written flow.host
+    → IsServing blocks version plan after flow.pending.items first now flow.answers.written flow.answers.host
     → (more : List ℕ) → LeavesLines blocks version plan (pieces_of (after ++ more)) first next fault
 
 -- all that was read is answered, and the final lines are written
 abbrev pub EndsServing : Flow → Option (List ℕ) → Option (List ℕ) → Type 0
 EndsServing flow now next =
     (blocks : ℕ) (version : Version) (plan : List GameRow) (after : List ℕ) (first : Option (List ℕ))
-    → IsServing blocks version plan after flow.pending.items first now flow.written flow.host
+    → IsServing blocks version plan after flow.pending.items first now flow.answers.written flow.answers.host
     → Appends first next (live_lines_of blocks version plan (pieces_of after))
 
 -- it stopped by that fault when all was read
 abbrev pub StopsAtEnd : Flow → Option (List ℕ) → Option (List ℕ) → Fault → Type 0
 StopsAtEnd flow now next fault =
     (blocks : ℕ) (version : Version) (plan : List GameRow) (after : List ℕ) (first : Option (List ℕ))
-    → IsServing blocks version plan after flow.pending.items first now flow.written flow.host
+    → IsServing blocks version plan after flow.pending.items first now flow.answers.written flow.answers.host
     → LeavesLines blocks version plan (pieces_of after) first next fault
 
 -- a host newly opened for a file with that first line

@@ -32,11 +32,11 @@ loop-init g c =
 pub loop-preserved : goal.loop-preserved
 loop-preserved g c =
     let host = c.args.host in
-    let new = c.answer_ready.new.flow.host in
+    let new = c.answer_ready.new.flow.answers.host in
     let pending = c.args.rest.now in
     let first = g.W.Write.contents c.args.output.now in
     let now = g.W.Write.contents c.answer_ready.new.output in
-    let count = c.answer_ready.new.flow.written in
+    let count = c.answer_ready.new.flow.answers.written in
     let inv = c.loop.invariant in
     let serves = c.in_ok-answer_ready.ensures.serving in
     let (more, read, got) = c.in_ok-read_more.ensures.bytes in
@@ -54,11 +54,11 @@ pub returns-then-not-branch-clause-written : goal.returns-then-not-branch-clause
 returns-then-not-branch-clause-written g c =
     λ blocks version plan is.
     let host = c.args.host in
-    let new = c.answer_ready.new.flow.host in
+    let new = c.answer_ready.new.flow.answers.host in
     let pending = c.args.rest.now in
     let first = g.W.Write.contents c.args.output.now in
     let now = g.W.Write.contents c.answer_ready.new.output in
-    let count = c.answer_ready.new.flow.written in
+    let count = c.answer_ready.new.flow.answers.written in
     let next = g.W.Write.contents c.end_live.new.output in
     let inv = c.loop.invariant in
     let serves = c.in_ok-answer_ready.ensures.serving in
@@ -99,9 +99,9 @@ returns-in_err-answer_ready-clause-left g c =
 pub returns-in_err-read_more-clause-left : goal.returns-in_err-read_more-clause-left
 returns-in_err-read_more-clause-left g c =
     let host = c.args.host in
-    let new = c.answer_ready.new.flow.host in
+    let new = c.answer_ready.new.flow.answers.host in
     let pending = c.args.rest.now in
-    let count = c.answer_ready.new.flow.written in
+    let count = c.answer_ready.new.flow.answers.written in
     let input = g.R.Read.remaining c.args.input.now in
     let first = g.W.Write.contents c.args.output.now in
     let now = g.W.Write.contents c.answer_ready.new.output in
@@ -123,9 +123,9 @@ returns-in_err-read_more-clause-left g c =
 pub returns-in_err-end_live-clause-left : goal.returns-in_err-end_live-clause-left
 returns-in_err-end_live-clause-left g c =
     let host = c.args.host in
-    let new = c.answer_ready.new.flow.host in
+    let new = c.answer_ready.new.flow.answers.host in
     let pending = c.args.rest.now in
-    let count = c.answer_ready.new.flow.written in
+    let count = c.answer_ready.new.flow.answers.written in
     let input = g.R.Read.remaining c.args.input.now in
     let first = g.W.Write.contents c.args.output.now in
     let now = g.W.Write.contents c.answer_ready.new.output in
@@ -162,7 +162,7 @@ returns-clause-left g c =
     let (bytes, before, serving) = c.loop.invariant blocks version plan is in
     of_lines blocks version plan (g.R.Read.remaining c.args.input.now) (g.R.Read.remaining c.loop.input) pending bytes first now Memory before
     (λ more.
-    serving_first blocks version plan (pending ++ bytes) c.loop.flow.pending.items more first now c.loop.flow.written c.loop.flow.host serving)
+    serving_first blocks version plan (pending ++ bytes) c.loop.flow.pending.items more first now c.loop.flow.answers.written c.loop.flow.answers.host serving)
 
 pub returns-in_err-answer_ready-clause-failed : goal.returns-in_err-answer_ready-clause-failed
 returns-in_err-answer_ready-clause-failed g c =

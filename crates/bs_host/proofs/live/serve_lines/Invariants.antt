@@ -10,4 +10,4 @@ abbrev pub invariant-loop : goal.invariant-loop
 invariant-loop g l =
     (blocks : ℕ) (version : Version) (plan : List GameRow) → HasAnswered blocks version plan [] l.fn.host
     → (bytes : List ℕ) × Consumes (g.R.Read.remaining l.fn.input) (g.R.Read.remaining l.input) bytes
-    × IsServing blocks version plan (l.rest ++ bytes) l.flow.pending.items (g.W.Write.contents l.fn.output) (g.W.Write.contents l.output) l.flow.written l.flow.host
+    × IsServing blocks version plan (l.rest ++ bytes) l.flow.pending.items (g.W.Write.contents l.fn.output) (g.W.Write.contents l.output) l.flow.answers.written l.flow.answers.host
