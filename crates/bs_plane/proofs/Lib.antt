@@ -3,6 +3,7 @@ pub mod AnsweredMove
 pub mod EatenFood
 pub mod FitSteps
 pub mod FreeCells
+pub mod GivenFood
 pub mod Integers
 pub mod KeptFood
 pub mod LoadedPlane

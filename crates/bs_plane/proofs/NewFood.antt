@@ -61,10 +61,10 @@ above_zero n some = elim (cases_Bool (eqb n 0)) [
   | inr other ↦ other
 ]
 
-abbrev on_board : Board → Point → Cell
+abbrev pub on_board : Board → Point → Cell
 on_board b = contents b.food (cells_of b.hazards) b.snakes
 
-free_is_free : (b : Board) (p : Point) → is_free (on_board b p) ≡ is_free_cell b p
+pub free_is_free : (b : Board) (p : Point) → is_free (on_board b p) ≡ is_free_cell b p
 free_is_free b p =
     ap (λ t. t && not (list_any (is_same_cell p) b.food)) (no_sum (parts_on p) (stands_on p) (no_parts p) b.snakes)
     ∙ either_order (not (list_any (stands_on p) b.snakes)) (not (list_any (is_same_cell p) b.food))

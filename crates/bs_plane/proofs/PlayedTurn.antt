@@ -21,9 +21,12 @@ use Rattle.bs_board.specs.records.Record.{record_of, snake_record}
 use Rattle.bs_board.specs.records.Kept.{IsLegalRecord}
 use Rattle.bs_board.proofs.records.BoardRecord.{record_is_of_one_board}
 use Rattle.bs_board.proofs.records.Writable.{legal_is_writable}
-use Rattle.bs_food.proofs.NewFood.{Refed, refed_self, spawned_refed}
+use Rattle.bs_food.specs.Given.{given}
+use Rattle.bs_food.specs.Spawning.{spawned}
+use Rattle.bs_food.proofs.GivenFood.{given_refed}
+use Rattle.bs_food.proofs.NewFood.{Refed, refed_self, refed_then, spawned_refed}
 use Rattle.bs_rules.specs.Collision.{snake_at}
-use Rattle.bs_rules.specs.Turn.{turn_of}
+use Rattle.bs_rules.specs.Turn.{refilled, turn_of}
 use Rattle.bs_rules.proofs.TurnLegal.{turn_is_legal}
 use Rattle.bs_plane.specs.declared.plane.Plane.{Plane}
 use Rattle.bs_plane.specs.Food.{HasFood}
@@ -72,11 +75,16 @@ living_count b moves (s ∷ snakes) =
     let own = ap (λ lives. cond {A = ℕ} lives 1 0) (living_onward b (given_to moves s.id) s) in
     omega arith
 
-refilled_refed : (mode : Mode) (words : List ℕ) (b : Board) → Refed b (refilled_in mode words b)
-refilled_refed Standard words b = spawned_refed words b
-refilled_refed Solo words b = spawned_refed words b
-refilled_refed Constrictor words b = refed_self b
-refilled_refed Wrapped words b = spawned_refed words b
+refilled_only : (orders : Orders) (b : Board) → Refed b (refilled orders b)
+refilled_only orders b =
+    let new = spawned orders.words b in
+    refed_then b new (given orders.food new) (spawned_refed orders.words b) (given_refed orders.food new)
+
+refilled_refed : (mode : Mode) (orders : Orders) (b : Board) → Refed b (refilled_in mode orders b)
+refilled_refed Standard orders b = refilled_only orders b
+refilled_refed Solo orders b = refilled_only orders b
+refilled_refed Constrictor orders b = refed_self b
+refilled_refed Wrapped orders b = refilled_only orders b
 
 module _ (b : Board) (orders : Orders) (legal : IsLegal b) (parts : BoardBytes) (of : IsBoardBytes b parts) (may : MayStep parts orders)
     (plane1 plane2 : Plane) (none snakes food food' bytes : List ℕ) (no_heads heads : List Point) where
@@ -84,7 +92,7 @@ module _ (b : Board) (orders : Orders) (legal : IsLegal b) (parts : BoardBytes) 
   moved = map (onward b orders.moves) b.snakes
 
   abbrev x : Board
-  x = refilled_in b.mode orders.words (fed_onward b orders.moves)
+  x = refilled_in b.mode orders (fed_onward b orders.moves)
 
   many : length moved ≡ length b.snakes
   many = length-map b.snakes (onward b orders.moves)
@@ -110,7 +118,7 @@ module _ (b : Board) (orders : Orders) (legal : IsLegal b) (parts : BoardBytes) 
     moved_listed = moves.listed ∙ ap (λ l. l ++ living_heads (map (onward b orders.moves) (take (length b.snakes) b.snakes))) unlisted
         ∙ ap (λ l. living_heads (map (onward b orders.moves) l)) all
 
-    module _ (alone : AreAlone heads plane1) (refills : Refills (λ c. refilled_in c.mode orders.words c) parts heads plane1 food plane2 food') (no_food : food ≡ [])
+    module _ (alone : AreAlone heads plane1) (refills : Refills (λ c. refilled_in c.mode orders c) parts heads plane1 food plane2 food') (no_food : food ≡ [])
         (many_live : last_living parts.mode < length heads) (writes : WritesNext parts food' snakes bytes) where
       is_on : is_over b ≡ false
       is_on =
@@ -128,13 +136,13 @@ module _ (b : Board) (orders : Orders) (legal : IsLegal b) (parts : BoardBytes) 
       }
 
       is_turn : turn_of b orders ≡ followed b orders
-      is_turn = is_followed b orders go_on may.no_hazards may.no_food
+      is_turn = is_followed b orders go_on may.no_hazards
 
       has : HasFood x plane2 food'
       has = refills b orders.moves of (legal_is_writable b legal).cells moved_shown moved_listed no_food
 
       only : x ≡ record (fed_onward b orders.moves) { food = x.food }
-      only = (refilled_refed b.mode orders.words (fed_onward b orders.moves)).only
+      only = (refilled_refed b.mode orders (fed_onward b orders.moves)).only
 
       pub plays : Plays b orders plane2 bytes
       plays =

@@ -19,15 +19,13 @@ use Rattle.bs_board.specs.boards.Over.{is_living}
 use Rattle.bs_board.specs.boards.Wrap.{is_wrapped, wrap_of}
 use Rattle.bs_board.specs.commands.Orders.{Orders, given_to}
 use Rattle.bs_board.specs.records.Layout.{cells_of}
-use Rattle.bs_food.specs.Given.{given}
-use Rattle.bs_food.specs.Spawning.{spawned}
 use Rattle.bs_modes.specs.Growth.{grown_body, grown_snake, is_stretched, part_from_end}
 use Rattle.bs_rules.specs.Collision.{collided, collision_verdict, map_seats, nobody, snake_at}
 use Rattle.bs_rules.specs.Elimination.{judged, starved_or_outside, starved_or_outside_snake, starved_or_outside_verdict}
 use Rattle.bs_rules.specs.Feeding.{eats, fed, fed_snake, food_left, has_head_on, last_of}
 use Rattle.bs_rules.specs.Hurting.{hazards_after, hurt, hurt_by, hurt_snake, is_hurt}
 use Rattle.bs_rules.specs.Motion.{direction_taken, moved, moved_board, neighbor}
-use Rattle.bs_rules.specs.Turn.{redrawn, replenished, turn_of}
+use Rattle.bs_rules.specs.Turn.{redrawn, refilled, replenished, turn_of}
 use Rattle.bs_rules.proofs.CollisionMeaning.{seat_of_living}
 use Rattle.bs_rules.proofs.Seats.{at_seat, length-map_seats}
 use Rattle.bs_plane.specs.Onward.{grown_in, onward}
@@ -154,12 +152,12 @@ same_any : (test : Snake → Bool) (f g : Snake → Snake) → ((s : Snake) → 
 same_any test f g each [] = refl
 same_any test f g each (x ∷ xs) = rw (each x, same_any test f g each xs) refl
 
-refills : (mode : Mode) (orders : Orders) (b : Board) → orders.food ≡ None
-    → replenished mode orders b ≡ refilled_in mode orders.words (record b { snakes = map (grown_in mode) b.snakes })
-refills Standard orders b none = ap (λ g. given g (spawned orders.words b)) none ∙ ap (λ l. spawned orders.words (record b { snakes = l })) (sym (map-id b.snakes))
-refills Solo orders b none = ap (λ g. given g (spawned orders.words b)) none ∙ ap (λ l. spawned orders.words (record b { snakes = l })) (sym (map-id b.snakes))
-refills Constrictor orders b none = refl
-refills Wrapped orders b none = ap (λ g. given g (spawned orders.words b)) none ∙ ap (λ l. spawned orders.words (record b { snakes = l })) (sym (map-id b.snakes))
+refills : (mode : Mode) (orders : Orders) (b : Board)
+    → replenished mode orders b ≡ refilled_in mode orders (record b { snakes = map (grown_in mode) b.snakes })
+refills Standard orders b = ap (λ l. refilled orders (record b { snakes = l })) (sym (map-id b.snakes))
+refills Solo orders b = ap (λ l. refilled orders (record b { snakes = l })) (sym (map-id b.snakes))
+refills Constrictor orders b = refl
+refills Wrapped orders b = ap (λ l. refilled orders (record b { snakes = l })) (sym (map-id b.snakes))
 
 module _ (b : Board) (orders : Orders) (go : GoOn b orders.moves) where
   abbrev moves : List (List ℕ × Direction)
@@ -292,13 +290,13 @@ module _ (b : Board) (orders : Orders) (go : GoOn b orders.moves) where
       filter_agree (λ cell. not (list_any (has_head_on cell) m.snakes)) (λ cell. not (list_any (has_head_on cell) (map (onward b moves) b.snakes)))
       (λ cell. ap not (same_any (has_head_on cell) step (onward b moves) (same_head cell) b.snakes)) b.food
 
-  pub is_followed : orders.hazards ≡ None → orders.food ≡ None → turn_of b orders ≡ followed b orders
+  pub is_followed : orders.hazards ≡ None → turn_of b orders ≡ followed b orders
   unfolding turn_of
-  is_followed no_hazards no_food =
+  is_followed no_hazards =
       let steps : collided (starved_or_outside (fed (hurt m))) ≡ f = ap (λ x. collided (starved_or_outside (fed x))) not_hurt ∙ ap collided none_first_out ∙ none_collides in
       let x : Board = record (replenished b.mode orders f) { turn = b.turn + 1 } in
       let same : record f { snakes = map (grown_in b.mode) f.snakes } ≡ fed_onward b moves =
       ap (λ l. record f { snakes = l }) onward_are ∙ ap (λ l. record b { food = l; snakes = map (onward b moves) b.snakes }) food_same in
       ap (λ y. redrawn orders (record (replenished b.mode orders y) { turn = b.turn + 1 })) steps
       ∙ ap (λ g. record x { hazards = hazards_after x.width x.height g x.hazards }) no_hazards
-      ∙ ap (λ (y : Board). record y { turn = b.turn + 1 }) (refills b.mode orders f no_food ∙ ap (refilled_in b.mode orders.words) same)
+      ∙ ap (λ (y : Board). record y { turn = b.turn + 1 }) (refills b.mode orders f ∙ ap (refilled_in b.mode orders) same)

@@ -20,7 +20,8 @@ use Rattle.bs_plane.specs.Plane.{Changes, ShowsBoard, contents}
 use Rattle.bs_plane.specs.Food.{HasFood, food_bytes}
 use Rattle.bs_plane.proofs.EatenFood.{without_eaten}
 use Rattle.bs_board.specs.declared.records.layout.BoardBytes.{BoardBytes}
-use Rattle.bs_food.specs.Spawning.{spawned}
+use Rattle.bs_board.specs.commands.Orders.{Orders}
+use Rattle.bs_rules.specs.Turn.{refilled}
 use Rattle.bs_plane.specs.Onward.{ShowsSnakes, onward}
 use Rattle.bs_plane.specs.Turn.{fed_onward, refilled_in}
 use Rattle.bs_plane.specs.inner.Turn.{Refills}
@@ -81,14 +82,14 @@ no_cells [] none = refl
 no_cells (p ∷ cells) none = let long = food_length (p ∷ cells) in absurd (omega arith)
 
 -- in constrictor there is no food, and none is added
-pub stays_empty : (words : List ℕ) (b : Board) (moves : List (List ℕ × Direction)) (plane : Plane) (there food : List ℕ) → b.mode ≡ Constrictor
+pub stays_empty : (orders : Orders) (b : Board) (moves : List (List ℕ × Direction)) (plane : Plane) (there food : List ℕ) → b.mode ≡ Constrictor
     → there ≡ food_bytes b.food → eqb (length there) 0 ≡ true → ShowsSnakes b (map (onward b moves) b.snakes) plane → food ≡ []
-    → HasFood (refilled_in b.mode words (fed_onward b moves)) plane food
-stays_empty words b moves plane there food mode is empty shows none =
+    → HasFood (refilled_in b.mode orders (fed_onward b moves)) plane food
+stays_empty orders b moves plane there food mode is empty shows none =
     let gone : b.food ≡ [] = no_cells b.food (ap length (sym is) ∙ eqb-true (length there) 0 empty) in
     let left : food_left (map (onward b moves) b.snakes) b.food ≡ b.food = ap (food_left (map (onward b moves) b.snakes)) gone ∙ sym gone in
-    let same : refilled_in b.mode words (fed_onward b moves) ≡ record b { snakes = map (onward b moves) b.snakes } =
-    ap (λ m. refilled_in m words (fed_onward b moves)) mode ∙ ap (λ l. record b { food = l; snakes = map (onward b moves) b.snakes }) left in
+    let same : refilled_in b.mode orders (fed_onward b moves) ≡ record b { snakes = map (onward b moves) b.snakes } =
+    ap (λ m. refilled_in m orders (fed_onward b moves)) mode ∙ ap (λ l. record b { food = l; snakes = map (onward b moves) b.snakes }) left in
     let has : HasFood (record b { snakes = map (onward b moves) b.snakes }) plane food = record {
       shows = record { width = shows.width; height = shows.height; cells = shows.cells };
       written = none ∙ ap food_bytes (sym gone);
@@ -96,15 +97,15 @@ stays_empty words b moves plane there food mode is empty shows none =
     subst (λ (x : Board). HasFood x plane food) (sym same) has
 
 -- in the other modes food is added
-pub spawns_in : {E : Type 0} (mode : Mode) (words : List ℕ) → ((b : Board) → refilled_in mode words b ≡ spawned words b) → (result : Result Bool E) (parts : BoardBytes)
+pub refills_in : {E : Type 0} (mode : Mode) (orders : Orders) → ((b : Board) → refilled_in mode orders b ≡ refilled orders b) → (result : Result Bool E) (parts : BoardBytes)
     → parts.mode ≡ mode → (heads : List Point) (old : Plane) (food : List ℕ) (new : Plane) (food' : List ℕ)
-    → IfOk result (λ done. IsTrue done → Refills (λ b. spawned words b) parts heads old food new food')
-    → IfOk result (λ done. IsTrue done → Refills (λ b. refilled_in b.mode words b) parts heads old food new food')
-spawns_in mode words is result parts same heads old food new food' refills =
+    → IfOk result (λ done. IsTrue done → Refills (λ b. refilled orders b) parts heads old food new food')
+    → IfOk result (λ done. IsTrue done → Refills (λ b. refilled_in b.mode orders b) parts heads old food new food')
+refills_in mode orders is result parts same heads old food new food' refills =
     IfOk-weaker result _ _
-    (λ done refilled ok b moves of bytes shows listed none.
+    (λ done filled ok b moves of bytes shows listed none.
     let own : b.mode ≡ mode = sym of.mode ∙ same in
     let x = fed_onward b moves in
-    let more : refilled_in b.mode words x ≡ spawned words x = ap (λ m. refilled_in m words x) own ∙ is x in
-    subst (λ (y : Board). HasFood y new food') (sym more) (refilled ok b moves of bytes shows listed none))
+    let more : refilled_in b.mode orders x ≡ refilled orders x = ap (λ m. refilled_in m orders x) own ∙ is x in
+    subst (λ (y : Board). HasFood y new food') (sym more) (filled ok b moves of bytes shows listed none))
     refills

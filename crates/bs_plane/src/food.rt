@@ -103,7 +103,11 @@ fn column_and_row(plane: &Plane, place: usize) -> Option<(u8, u8)>
 }
 
 /// Puts food on the cell with that index.
-fn put_food_at(plane: &mut Plane, place: usize, into: &mut Vec<u8>) -> Result<bool, AllocError>
+pub(crate) fn put_food_at(
+    plane: &mut Plane,
+    place: usize,
+    into: &mut Vec<u8>,
+) -> Result<bool, AllocError>
     ensures { IfOk result (λ done. IsTrue done → PutsFood place plane.old into.old.items plane.new into.new.items) }
 {
     match column_and_row(plane, place) {

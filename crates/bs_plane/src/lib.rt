@@ -6,6 +6,7 @@ mod answering;
 mod cache;
 mod cell;
 mod food;
+mod given;
 mod law;
 mod motion;
 mod plane;

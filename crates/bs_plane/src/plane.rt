@@ -40,7 +40,7 @@ impl Plane {
 
     /// The index of a cell; `None` for a cell that is not on the board.
     #[inline(always)]
-    fn place(&self, cell: Point) -> Option<usize>
+    pub(crate) fn place(&self, cell: Point) -> Option<usize>
         ensures { IfSome result (IsPlace self.now cell) }
     {
         if !cell.is_on_board(self.width, self.height) {

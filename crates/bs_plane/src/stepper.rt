@@ -3,7 +3,7 @@
 ghost use Rattle.std.specs.Prelude.{◌≡◌, true, IfOk, IfSome, IsTrue, MatchOption, None, OnErr, OnOk};
 ghost use Rattle.bs_board.specs.commands.Setup.{is_side};
 ghost use Rattle.bs_board.specs.records.Layout.{cells_of};
-ghost use Rattle.bs_food.specs.Spawning.{spawned};
+ghost use Rattle.bs_rules.specs.Turn.{refilled};
 ghost use Rattle.bs_plane.specs.Following.{Follows, IsLost, IsNextRecord};
 ghost use Rattle.bs_plane.specs.Plane.{Changes, ShowsBoard, with_hazards};
 ghost use Rattle.bs_plane.specs.Turn.{refilled_in};
@@ -11,6 +11,7 @@ ghost use Rattle.bs_plane.specs.inner.Answered.{IsMoveReason};
 ghost use Rattle.bs_plane.specs.inner.Turn.{MayStep, PlaysFrom, Refills};
 
 use crate::food::{keep_food, remove_eaten, spawn};
+use crate::given::give;
 use crate::motion::{are_alone, move_snakes};
 use crate::plane::Plane;
 use crate::writing::write_record;
@@ -61,15 +62,16 @@ fn show(plane: &mut Plane, board: &Board) -> Result<bool, AllocError>
     Ok(plane.add_snakes(board.snakes.as_slice()))
 }
 
-/// Removes what was eaten, and adds new food. False if the plane cannot follow.
+/// Removes what was eaten, adds new food, and then the food that the move gives. False if the plane
+/// cannot follow.
 fn refill_food(
     plane: &mut Plane,
     board: &BoardBytes<'_>,
-    words: &[u32],
+    orders: &Move,
     heads: &[Point],
     food: &mut Vec<u8>,
 ) -> Result<bool, AllocError>
-    ensures { IfOk result (λ done. IsTrue done → Refills (λ b. spawned words.now b) board.now heads.now plane.old food.old.items plane.new food.new.items) }
+    ensures { IfOk result (λ done. IsTrue done → Refills (λ b. refilled orders.now b) board.now heads.now plane.old food.old.items plane.new food.new.items) }
 {
     if !remove_eaten(plane, heads) {
         return Ok(false);
@@ -77,24 +79,28 @@ fn refill_food(
     if !keep_food(plane, board.food, food)? {
         return Ok(false);
     }
-    spawn(plane, board.min_food, board.chance, words, food)
+    let words = orders.words.as_slice();
+    if !spawn(plane, board.min_food, board.chance, words, food)? {
+        return Ok(false);
+    }
+    give(plane, &orders.food, food)
 }
 
 /// The food of a turn, by the mode. False if the plane cannot follow.
 fn refill(
     plane: &mut Plane,
     board: &BoardBytes<'_>,
-    words: &[u32],
+    orders: &Move,
     heads: &[Point],
     food: &mut Vec<u8>,
 ) -> Result<bool, AllocError>
-    ensures { IfOk result (λ done. IsTrue done → Refills (λ b. refilled_in b.mode words.now b) board.now heads.now plane.old food.old.items plane.new food.new.items) }
+    ensures { IfOk result (λ done. IsTrue done → Refills (λ b. refilled_in b.mode orders.now b) board.now heads.now plane.old food.old.items plane.new food.new.items) }
 {
     match board.mode {
         Mode::Constrictor => Ok(board.food.is_empty()),
-        Mode::Standard => refill_food(plane, board, words, heads, food),
-        Mode::Solo => refill_food(plane, board, words, heads, food),
-        Mode::Wrapped => refill_food(plane, board, words, heads, food),
+        Mode::Standard => refill_food(plane, board, orders, heads, food),
+        Mode::Solo => refill_food(plane, board, orders, heads, food),
+        Mode::Wrapped => refill_food(plane, board, orders, heads, food),
     }
 }
 
@@ -127,13 +133,7 @@ fn play(
     if !are_alone(plane, &draft.heads) {
         return Ok(false);
     }
-    if !refill(
-        plane,
-        board,
-        orders.words.as_slice(),
-        &draft.heads,
-        &mut draft.food,
-    )? {
+    if !refill(plane, board, orders, &draft.heads, &mut draft.food)? {
         return Ok(false);
     }
     if draft.food.len() >= 131_000 {
@@ -155,7 +155,6 @@ fn may_step(board: &BoardBytes<'_>, orders: &Move) -> bool
     ensures { IsTrue result → MayStep board.now orders.now }
 {
     orders.hazards.is_none()
-        && orders.food.is_none()
         && is_side(board.width)
         && is_side(board.height)
         && board.turn < LAST_TURN

@@ -17,11 +17,21 @@ use std::alloc::{AllocError, Global};
 use std::marker::Model;
 use std::test::Fail;
 
-/// The number of turns, and of those over the plane.
+/// The number of turns, of those over the plane, and of those of them whose move gives food.
 #[derive(Clone, Copy)]
 struct Counts {
     turns: u32,
     stepped: u32,
+    fed: u32,
+}
+
+impl Counts {
+    fn count(&mut self, stepped: bool, orders: &Move) {
+        self.turns = self.turns.wrapping_add(1);
+        self.stepped = self.stepped.wrapping_add(u32::from(stepped));
+        let fed = stepped && orders.food.is_some();
+        self.fed = self.fed.wrapping_add(u32::from(fed));
+    }
 }
 
 /// A stepper that is that of the board, where it can be.
@@ -114,8 +124,7 @@ fn play_game(alloc: Global, draws: &mut Draws, most: u32, counts: &mut Counts) -
         }
         let orders = orders(alloc, draws, &game.board)?;
         let (next, stepped) = play(alloc, game, &orders)?;
-        counts.turns = counts.turns.wrapping_add(1);
-        counts.stepped = counts.stepped.wrapping_add(u32::from(stepped));
+        counts.count(stepped, &orders);
         game = next;
     }
     Ok(())
@@ -126,6 +135,7 @@ fn games_over_a_plane_are_as_decoded(rt: HostRuntime) -> Result<(), Fail> {
     let mut counts = Counts {
         turns: 0,
         stepped: 0,
+        fed: 0,
     };
     for seed in 0..250 {
         let mut draws = Draws::of(seed);
@@ -134,6 +144,10 @@ fn games_over_a_plane_are_as_decoded(rt: HostRuntime) -> Result<(), Fail> {
     holds(
         "most turns are over the plane",
         counts.stepped > counts.turns / 2,
+    )?;
+    holds(
+        "a fourth of them with food that the move gives",
+        counts.fed > counts.stepped / 4,
     )
 }
 
@@ -143,6 +157,7 @@ fn laid_boards_over_a_plane_are_as_decoded(rt: HostRuntime) -> Result<(), Fail> 
     let mut counts = Counts {
         turns: 0,
         stepped: 0,
+        fed: 0,
     };
     for seed in 0..700 {
         let mut draws = Draws::of(seed);
@@ -150,8 +165,7 @@ fn laid_boards_over_a_plane_are_as_decoded(rt: HostRuntime) -> Result<(), Fail> 
         holds("a legal board", is_legal(&board))?;
         let orders = orders(alloc, &mut draws, &board)?;
         let (_, stepped) = play(alloc, begun(alloc, board)?, &orders)?;
-        counts.turns = counts.turns.wrapping_add(1);
-        counts.stepped = counts.stepped.wrapping_add(u32::from(stepped));
+        counts.count(stepped, &orders);
     }
     holds("many boards are over the plane", counts.stepped > 300)
 }

@@ -10,4 +10,6 @@ mod draws;
 #[cfg(test)]
 mod games;
 #[cfg(test)]
+mod given;
+#[cfg(test)]
 mod orders;

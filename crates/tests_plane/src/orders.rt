@@ -3,7 +3,7 @@ ghost use Rattle.std.specs.Prelude.{◌≡◌};
 
 use crate::draws::Draws;
 use bs_board::limits::MOST_WORDS;
-use bs_board::{Board, Direction, Move, Moves, Point, Snake, Words, has_cell, head_of};
+use bs_board::{Board, Cells, Direction, Move, Moves, Point, Snake, Words, has_cell, head_of};
 use bs_samples::holds;
 use std::alloc::{AllocError, Global};
 use std::test::Fail;
@@ -78,11 +78,27 @@ fn words(alloc: Global, draws: &mut Draws) -> Result<Vec<u32>, AllocError> {
     Ok(words)
 }
 
+/// The cells of food that a move gives, once in three moves; some of them are off the board.
+fn food(alloc: Global, draws: &mut Draws, board: &Board) -> Result<Option<Cells>, AllocError> {
+    if !draws.once_in(3) {
+        return Ok(None);
+    }
+    let mut cells = Cells::new(alloc);
+    for _ in 0..draws.next(8) {
+        cells.push(Point {
+            x: draws.next(u64::from(board.width).wrapping_add(1)) as i16,
+            y: draws.next(u64::from(board.height).wrapping_add(1)) as i16,
+        })?;
+    }
+    Ok(Some(cells))
+}
+
 /// A move of that board's snakes, mostly to open cells.
 pub fn orders(alloc: Global, draws: &mut Draws, board: &Board) -> Result<Move, Fail> {
     let moves = moves(alloc, draws, board)?;
     let words = words(alloc, draws)?;
     holds("ids in their order", moves.is_ascending())?;
     holds("few words", words.len() <= MOST_WORDS)?;
-    Ok(Move::new(moves, Words::from_vec(words)))
+    let food = food(alloc, draws, board)?;
+    Ok(Move::new(moves, Words::from_vec(words)).with_map(None, food))
 }

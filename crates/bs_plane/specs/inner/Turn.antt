@@ -29,7 +29,6 @@ Refills more parts heads old food new food' =
 -- the plane can follow the turn, unless a snake goes out
 pub record MayStep (parts : BoardBytes) (orders : Orders) : Type 0 where
   pub no_hazards : orders.hazards ≡ None
-  pub no_food : orders.food ≡ None
   pub wide : is_side parts.width ≡ true
   pub high : is_side parts.height ≡ true
   pub early : parts.turn < LAST_TURN
