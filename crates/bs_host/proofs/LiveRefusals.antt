@@ -15,6 +15,7 @@ use Rattle.bs_json.specs.PlanLine.{plan_line_of}
 use Rattle.bs_registry.specs.Blocks.{blocks_of_all}
 use Rattle.bs_host.specs.declared.fault.Fault.{Fault}
 use Rattle.bs_host.specs.declared.fault.Fault.TheVariants.{Device, Plan as OfPlan, Memory, Write, Flush}
+use Rattle.bs_host.specs.declared.fault.PlanRefusal.TheVariants as refusal
 use Rattle.bs_host.specs.declared.limits.TheConstants.{BLOCK_BYTES}
 use Rattle.bs_host.specs.declared.live_host.LiveHost.{LiveHost}
 use Rattle.bs_host.specs.Faults.{refusal_of_plan}

@@ -1,8 +1,8 @@
 -- The open stays alone decide the routing.
 use Rattle.std.proofs.Common.{◌≡◌, Bool, true, false, not, is_some, ℕ, ◌+◌, ◌<◌, ◌&&◌, nat_lt, if◌then◌else◌, List, [], ◌∷◌, ◌++◌, Option, Some, None, length, inl, inr, refl, sym, ap, ◌∙◌, arith, length-append}
-use Rattle.std.specs.List.{list_any}
+use Rattle.std.specs.List.{enumerate_from, list_any}
 use Rattle.std.proofs.lemmas.Bool.{and_parts, cases_Bool, ltb-true, not-true}
-use Rattle.std.proofs.lemmas.List.{length-set, map-append}
+use Rattle.std.proofs.lemmas.List.{length-map, length-set, map-append}
 use Rattle.bs_board.specs.declared.limits.TheConstants.{MOST_ROWS}
 use Rattle.bs_board.specs.plans.Plan.{GameRow}
 use Rattle.bs_board.specs.declared.commands.command.Command.TheVariants as command
@@ -10,12 +10,14 @@ use Rattle.bs_json.specs.declared.line.Line.{Line}
 use Rattle.bs_json.specs.Line.{line_of}
 use Rattle.bs_json.specs.declared.line.Line.TheVariants as line
 use Rattle.bs_json.specs.declared.line.Stray.TheVariants as stray
-use Rattle.bs_registry.specs.Registry.{Listing, row_open, seen, with_stay, without_stay}
+use Rattle.bs_registry.specs.declared.registry.Listed.{Listed}
+use Rattle.bs_registry.specs.Registry.{Listing, listed_from, listing_of, row_open, rows_open, seen, with_stay, without_stay}
 use Rattle.bs_registry.specs.declared.blocks.TheConstants.{MOST_STAYS}
 use Rattle.bs_registry.specs.Stays.{Capacity, Stay, closed_stay, open_stay, stay_at}
+use Rattle.bs_workers.specs.Acts.{opened}
 use Rattle.bs_workers.specs.declared.act.Act.TheVariants as act
 use Rattle.bs_host.specs.declared.route.Route.{Route}
-use Rattle.bs_registry.specs.OpenStays.{OpenStayList, bears, found_in, open_of, open_stays_of}
+use Rattle.bs_registry.specs.OpenStays.{OpenStayList, bears, found_in, open_from, open_of, open_stays_of}
 use Rattle.bs_registry.specs.inner.OpenStays.{refusal_by}
 use Rattle.bs_host.specs.inner.OpenStays.{may_follow, own_by_open_stays, open_stays_then, route_by, routes_by_open_stays}
 use Rattle.bs_host.specs.Cut.{is_own_line, own_lines_in}
@@ -23,6 +25,7 @@ use Rattle.bs_host.specs.inner.Laws.{OpenStayLinesLaw, OpenStaysLaw}
 use Rattle.bs_host.specs.Routing.{command_to, admit_refusal, admit_route, registry_then, hand_route, leave_route, next_registry, route_at, route_of, routes_from, stray_for}
 use Rattle.bs_host.specs.declared.route.Route.TheVariants as route
 use Rattle.bs_registry.proofs.OpenStays.{open_law}
+use Rattle.bs_registry.proofs.Planned.{rows_listed}
 use Rattle.bs_registry.proofs.Rows.{filtered_rows}
 use Rattle.bs_host.specs.declared.parse.ParsedLine.{ParsedLine}
 use Rattle.bs_host.specs.declared.parse.ParsedLine.TheVariants as parsed

@@ -1,12 +1,12 @@
 -- A line without the white space between its tokens means the same.
-use Rattle.std.proofs.Common.{◌≡◌, ℕ, suc, ◌+◌, ◌<◌, ◌≤◌, ◌==◌, ◌||◌, List, [], ◌∷◌, ◌++◌, Bool, true, false, not, cond, Option, Some, None, option_map, option_and_then, IfSome, length, drop, get_or, nat_le, nat_lt, refl, sym, ap, ap₂, ◌∙◌, subst, arith, add-one, append_assoc, drop-cons}
-use Rattle.std.proofs.lemmas.Bool.{and_from, eqb-true, le-ltb, leb-true, lt-ltb, ne_eqb}
+use Rattle.std.proofs.Common.{◌≡◌, ℕ, suc, ◌+◌, ◌<◌, ◌≤◌, ◌==◌, ◌||◌, ◌&&◌, List, [], ◌∷◌, ◌++◌, Bool, true, false, not, cond, Option, Some, None, option_map, option_and_then, IfSome, IsUtf8, length, drop, get_or, nat_le, nat_lt, inl, inr, ◌⊎◌, refl, sym, ap, ap₂, ◌∙◌, subst, arith, add-one, append_assoc, drop-cons}
+use Rattle.std.proofs.lemmas.Bool.{and_from, cases_Bool, cases_lt, eqb-true, le-ltb, leb-true, lt-leb, lt-ltb, ltb-true, ne_eqb}
 use Rattle.std.proofs.lemmas.List.{append-nil, drop_all}
 use Rattle.std.proofs.lemmas.Str.{is_utf8-from_IsUtf8}
 use Rattle.std.specs.Char.{is_ascii_digit}
 use Rattle.std.specs.List.{list_all, prefix_len}
 use Rattle.std.specs.Str.{IsAscii}
-use Rattle.json.specs.Lex.{Class, quote, backslash, operator, space, other, class, token, Mode, between, in_string, lex, lex_byte, operator_lexeme, punctuate, fresh, string_token, tokens}
+use Rattle.json.specs.Lex.{Class, quote, backslash, operator, space, other, class, Lexeme, token, Mode, between, in_string, in_word, lex, lex_byte, operator_lexeme, punctuate, fresh, string_token, tokens}
 use Rattle.json.specs.Text.{content, plain, prepend}
 use Rattle.json.specs.Token.{number}
 use Rattle.json.specs.Word.{after_number, ends_word, is_operator}
@@ -23,7 +23,7 @@ use Rattle.bs_json.specs.declared.line.Line.{Line}
 use Rattle.bs_json.specs.declared.minified.Place.{Place}
 use Rattle.bs_json.specs.declared.minified.Place.TheVariants.{Between, Number, Ended, Text}
 use Rattle.bs_json.specs.inner.Compact.{is_plain}
-use Rattle.bs_json.specs.inner.Minified.{before_rest, is_kept, minified, next_place}
+use Rattle.bs_json.specs.inner.Minified.{before_rest, behind_digit, behind_first_digit, behind_plain, is_blank, is_kept, minified, next_place}
 use Rattle.bs_json.specs.Line.{is_space, line_of}
 use Rattle.bs_json.specs.Values.{value_of}
 

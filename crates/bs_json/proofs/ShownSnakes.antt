@@ -17,7 +17,7 @@ use Rattle.bs_board.specs.records.Record.{cell_bytes, snake_record}
 use Rattle.bs_board.specs.records.Writing.{IsWritable}
 use Rattle.bs_board.specs.inner.Writing.{AreWritableHazards, IsWritableBoard}
 use Rattle.bs_json.specs.Boards.{board_data, cells_data, killer_data, mode_text, snake_data, snakes_data}
-use Rattle.bs_json.specs.inner.BoardText.{back_pieces, board_of, cells_of as shown_cells, front_pieces, hazards_of, snake_of, snake_pieces}
+use Rattle.bs_json.specs.inner.BoardText.{back_pieces, board_of, cells_of as shown_cells, front_pieces, hazard_pieces, hazards_of, snake_of, snake_pieces}
 use Rattle.bs_json.specs.Text.{Text, put}
 use Rattle.bs_json.proofs.Puts.{next, put_put}
 use Rattle.bs_json.proofs.ShownCells.{cells_again}

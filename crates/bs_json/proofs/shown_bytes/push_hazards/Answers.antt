@@ -1,3 +1,6 @@
+use Rattle.std.proofs.Common.{◌∙◌, ap}
+use Rattle.bs_json.specs.inner.BoardText.{hazard_pieces, hazards_of}
+use Rattle.bs_json.specs.Text.{put}
 use Rattle.bs_json.proofs.Puts.{next}
 use Rattle.bs_json.proofs.shown_bytes.push_hazards.Goals as goal
 
