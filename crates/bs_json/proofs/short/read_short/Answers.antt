@@ -9,6 +9,6 @@ pub returns : goal.returns
 returns c =
     let short : length c.args.line.now ≤ MAX_LINE = search rules in
     line_of_short c.args.line.now c.lent-game.result c.in_ok-name.order.now (command_of_short c.in_ok-command.command)
-        (subst (λ n. c.args.line.now ≡ line_text n c.in_ok-name.order.now) (sym c.lent-game.ensures) c.in_ok-name.ensures.text)
-        (rw c.lent-game.ensures c.in_ok-name.ensures.plain)
-        c.in_ok-command.ensures short
+    (subst (λ n. c.args.line.now ≡ line_text n c.in_ok-name.order.now) (sym c.lent-game.ensures) c.in_ok-name.ensures.text)
+    (rw c.lent-game.ensures c.in_ok-name.ensures.plain)
+    c.in_ok-command.ensures short
