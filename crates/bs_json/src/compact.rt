@@ -54,7 +54,10 @@ fn split_text<'l>(line: &'l [u8]) -> Option<(&'l [u8], &'l [u8])>
     ensures plain { IfSome result (λ found. are_plain found.0.now ≡ true) }
 {
     let (text, rest) = line.split_at(plain_end(line)?);
-    Some((text, strip_prefix(rest, b"\"")?))
+    match rest {
+        [b'"', rest @ ..] => Some((text, rest)),
+        _ => None,
+    }
 }
 
 fn as_text(bytes: &[u8]) -> Option<&str>
@@ -235,6 +238,17 @@ fn parse_move(
     parse_tail(alloc, version, moves, rest)
 }
 
+/// Strips the text before the moves of a move.
+#[inline(always)]
+fn behind_move(order: &[u8]) -> Option<&[u8]>
+    ensures { IfSome result (λ rest. order.now ≡ codes "move\",\"moves\":{" ++ rest.now) }
+{
+    match order.split_first_chunk::<15>() {
+        Some((b"move\",\"moves\":{", rest)) => Some(rest),
+        _ => None,
+    }
+}
+
 /// Parses a command from its name on. Also returns whether its words are written.
 fn parse_order(
     alloc: Global,
@@ -243,7 +257,7 @@ fn parse_order(
 ) -> Result<Option<(Command, bool)>, AllocError>
     ensures { IfOk result (λ o. IfSome o (λ found. IsOrderText version order.now found.1 found.0)) }
 {
-    if let Some(moves) = strip_prefix(order, b"move\",\"moves\":{") {
+    if let Some(moves) = behind_move(order) {
         return Ok(match parse_move(alloc, version, moves)? {
             Some((orders, written)) => Some((Command::Move(orders), written)),
             None => None,
@@ -255,14 +269,39 @@ fn parse_order(
     })
 }
 
+/// Strips the text before a game's name.
+#[inline(always)]
+fn behind_game(line: &[u8]) -> Option<&[u8]>
+    ensures { IfSome result (λ rest. line.now ≡ codes "{\"game\":\"" ++ rest.now) }
+{
+    match line.split_first_chunk::<9>() {
+        Some((b"{\"game\":\"", rest)) => Some(rest),
+        _ => None,
+    }
+}
+
+/// Strips the text between a game's name and its command's name.
+#[inline(always)]
+fn behind_name(line: &[u8]) -> Option<&[u8]>
+    ensures { IfSome result (λ rest. line.now ≡ codes "\",\"do\":\"" ++ rest.now) }
+{
+    match line.split_first_chunk::<8>() {
+        Some((b"\",\"do\":\"", rest)) => Some(rest),
+        _ => None,
+    }
+}
+
 /// Parses the line up to its command's name. Returns the game's name, and the rest of the line.
+#[tactic(auto, using(crate::proofs::CutTexts::plain_front))]
+#[inline(always)]
 pub(crate) fn split_game<'l>(line: &'l [u8]) -> Option<(&'l [u8], &'l [u8])>
     ensures text { IfSome result
         (λ found. line.now ≡ codes "{\"game\":\"" ++ (found.0.now ++ (codes "\",\"do\":\"" ++ found.1.now))) }
     ensures plain { IfSome result (λ found. are_plain found.0.now ≡ true) }
 {
-    let (game, rest) = split_text(strip_prefix(line, b"{\"game\":\"")?)?;
-    Some((game, strip_prefix(rest, b",\"do\":\"")?))
+    let rest = behind_game(line)?;
+    let (game, rest) = rest.split_at(plain_end(rest)?);
+    Some((game, behind_name(rest)?))
 }
 
 /// Parses a line in its compact form, in a file of that version; `None` for any other line. The name

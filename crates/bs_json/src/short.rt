@@ -9,7 +9,7 @@ ghost use Rattle.bs_json.specs.Line.{line_of};
 ghost use Rattle.bs_json.specs.declared.short.ShortCommand.TheVariants as a_short;
 ghost use Rattle.bs_json.specs.Short.{command_of_short};
 
-use crate::compact::{is_exactly, split_game, strip_prefix};
+use crate::compact::{is_exactly, split_game};
 use crate::limits::MAX_LINE;
 use crate::name::Name;
 use crate::numbers::split_number;
@@ -108,9 +108,9 @@ fn parse_bare_order(order: &[u8]) -> Option<ShortCommand>
 pub(crate) fn parse_short_order(order: &[u8]) -> Option<ShortCommand>
     ensures { IfSome result (λ command. (version : AnyVersion) → IsOrderText version order.now false (command_of_short command)) }
 {
-    match strip_prefix(order, b"turn\",\"at\":") {
-        Some(at) => Some(ShortCommand::Turn(parse_turn(at)?)),
-        None => parse_bare_order(order),
+    match order.split_first_chunk::<11>() {
+        Some((b"turn\",\"at\":", at)) => Some(ShortCommand::Turn(parse_turn(at)?)),
+        _ => parse_bare_order(order),
     }
 }
 
