@@ -202,7 +202,7 @@ fn read_first<R: Read, C: ReadCalls<R>>(alloc: Global, input: &mut R) -> Result<
     Ok(bytes)
 }
 
-/// Answers the pending bytes at the end of the input, which are one line; writes the answer, and the
+/// Answers the pending bytes at the end of the input, which are one line. Writes the answer and the
 /// final lines of the open stays.
 fn end_live<W: Write, C: WriteCalls<W>>(
     alloc: Global,
