@@ -341,8 +341,8 @@ fn split_game<'l>(line: &'l [u8]) -> Option<(&'l [u8], &'l [u8])>
     Some((game, strip_prefix(rest, b",\"do\":\"")?))
 }
 
-/// Parses a line in its compact form, in a file of that version; `None` for any other line. The name
-/// of its game is not copied.
+/// Parses a line in its compact form, in a file of that version; `None` for any other line. The
+/// name of its game is not copied.
 #[tactic(auto, using(crate::proofs::CompactLines::line_of_compact))]
 #[inline(always)]
 pub(crate) fn compact_line<'l>(
