@@ -8,8 +8,8 @@ use Rattle.serde_json.specs.Written.{comma_if}
 use Rattle.bs_board.specs.declared.boards.point.Direction.{Direction}
 use Rattle.bs_board.specs.commands.Orders.{is_ascending}
 use Rattle.bs_board.proofs.Chains.{and_both}
-use Rattle.bs_json.specs.inner.Compact.{GivenMoves, are_plain, are_plain_moves, move_text, moves_text}
-use Rattle.bs_json.specs.inner.Sorted.{in_order, moves_in, put_move, put_moves}
+use Rattle.bs_json.specs.inner.Compact.{GivenMoves, are_plain, are_plain_moves, move_text}
+use Rattle.bs_json.specs.inner.Sorted.{moves_in, put_move, put_moves}
 use Rattle.bs_json.proofs.Ascending.{Given}
 use Rattle.bs_json.proofs.CompactBytes.{plain_text}
 use Rattle.bs_json.proofs.CutTexts.{are_some, one_move_more, plain_with_one, some_with_one}

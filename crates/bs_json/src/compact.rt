@@ -304,8 +304,8 @@ pub(crate) fn split_game<'l>(line: &'l [u8]) -> Option<(&'l [u8], &'l [u8])>
     Some((game, behind_name(rest)?))
 }
 
-/// Parses a line in its compact form, in a file of that version; `None` for any other line. The name
-/// of its game is not copied.
+/// Parses a line in its compact form, in a file of that version; `None` for any other line. The
+/// name of its game is not copied.
 #[tactic(auto, using(crate::proofs::CompactLines::line_of_compact))]
 #[inline(always)]
 pub(crate) fn compact_line<'l>(

@@ -1,4 +1,4 @@
-use Rattle.std.proofs.Common.{◌≡◌, ◌∷◌, ◌++◌, [], rules}
+use Rattle.std.proofs.Common.{◌≡◌, ◌++◌, [], rules}
 use Rattle.serde_json.specs.Written.{comma_if}
 use Rattle.bs_json.specs.inner.Compact.{move_text}
 use Rattle.bs_json.specs.inner.Sorted.{moves_in, put_move}

@@ -1,4 +1,4 @@
-use Rattle.std.proofs.Common.{◌≡◌, ◌<◌, ◌∙◌, [], length, true, arith, rules, sym, ap}
+use Rattle.std.proofs.Common.{◌∙◌, [], rules, sym, ap}
 use Rattle.std.specs.Ordering.{is_lt}
 use Rattle.bs_board.specs.declared.boards.point.Direction.TheVariants.{Up}
 use Rattle.bs_json.proofs.OrderedMoves.{last_below}

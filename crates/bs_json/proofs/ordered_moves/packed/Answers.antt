@@ -1,4 +1,4 @@
-use Rattle.std.proofs.Common.{[], rules}
+use Rattle.std.proofs.Common.{[]}
 use Rattle.bs_board.specs.declared.boards.point.Direction.TheVariants.{Up}
 use Rattle.bs_json.proofs.GivenMoves.{plain_at}
 use Rattle.bs_json.proofs.ordered_moves.packed.Goals as goal
