@@ -457,10 +457,7 @@ class TestLong:
         ]
         some = (line(game="a", do="show") + "\n").encode() * 1_000
         with tempfile.TemporaryFile() as errors, subprocess.Popen(
-            [program.path, "live"],
-            stdin=subprocess.PIPE,
-            stdout=subprocess.PIPE,
-            stderr=errors,
+            [program.path, "live"], stdin=subprocess.PIPE, stdout=subprocess.PIPE, stderr=errors
         ) as run:
 
             def say():
