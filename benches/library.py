@@ -1,12 +1,12 @@
 #!/usr/bin/env python3
 """Times the library from C, Rust and Python, beside a simulator by hand and plain Python, on 500
-drawn games of four snakes on 11 by 11 cells.
+drawn games of four snakes, or of two or eight, on 11 by 11 cells.
 
-    benches/library.py [--games N] [--runs R] [--seconds S] [--only PART..]
+    benches/library.py [--games N] [--runs R] [--seconds S] [--snakes 2|4|8] [--only PART..]
 
-PART is c, rust, python or environments. It needs gcc, for Rust cargo, for Python numpy, and
-bindings/build to have been run. The times are of the processor (those of several threads of wall
-time, S seconds each), the least of R runs.
+PART is c, rust, python or environments; with other than four snakes it is c alone. It needs gcc,
+for Rust cargo, for Python numpy, and bindings/build to have been run. The times are of the
+processor (those of several threads of wall time, S seconds each), the least of R runs.
 """
 import argparse
 import random
@@ -26,17 +26,17 @@ MOST_TURNS = 400
 ROYALE = {"map": "royale"}
 
 
-def drawn_game(number):
-    """A game of four snakes that mostly keep alive, to its end or to turn 400."""
+def drawn_game(number, snakes):
+    """A game of snakes that mostly keep alive, to its end or to turn 400."""
     rng = random.Random(f"bench {number}")
-    setup = {"mode": "standard", "width": 11, "height": 11, "starts": rng.sample(SPOTS, 4)}
+    setup = {"mode": "standard", "width": 11, "height": 11, "starts": rng.sample(SPOTS, snakes)}
     setup |= {"food": [(5, 5), (5, 3)], "min_food": 1, "food_chance": 15}
     games = library_games.one_game(setup)
     game = library_games.Game(setup, games.record(0), 2, MOST_TURNS)
     while not games.is_over(0) and len(game.turns) < MOST_TURNS:
         moves = bytes(
             rng.choice(library_games.free_steps(rng, games.memory[0], seat) or [0])
-            for seat in range(4)
+            for seat in range(snakes)
         )
         words = [rng.getrandbits(32), rng.getrandbits(32)]
         games.step(moves, array("I", words))
@@ -190,10 +190,13 @@ def main():
     words.add_argument("--games", type=int, default=500)
     words.add_argument("--runs", type=int, default=20)
     words.add_argument("--seconds", type=float, default=1.0)
+    words.add_argument("--snakes", type=int, choices=(2, 4, 8), default=4)
     parts = ("c", "rust", "python", "environments")
     words.add_argument("--only", metavar="PART", nargs="+", choices=parts, default=parts)
     given = words.parse_args()
-    games = [drawn_game(number) for number in range(given.games)]
+    if given.snakes != 4:
+        given.only = ["c"]
+    games = [drawn_game(number, given.snakes) for number in range(given.games)]
     print("the library:", BUILT.read_text().splitlines()[-1].removeprefix("library: "))
     with tempfile.TemporaryDirectory() as folder:
         file = f"{folder}/games"

@@ -12,12 +12,12 @@
 #include <stdlib.h>
 #include <time.h>
 
-enum { MOST_GAMES = 1000, MOST_TURNS = 400 };
+enum { MOST_GAMES = 1000, MOST_TURNS = 400, MOST_SEATS = 8 };
 
-// A game of the file: two words a turn, four seats, 11 by 11 cells.
+// A game of the file: two words a turn, 11 by 11 cells.
 typedef struct {
-    arena_cell starts[4], food[16];
-    uint8_t moves[MOST_TURNS][4];
+    arena_cell starts[MOST_SEATS], food[16];
+    uint8_t moves[MOST_TURNS][MOST_SEATS];
     uint32_t words[MOST_TURNS][2];
     uint32_t turns, foods;
     uint8_t last[4000];
@@ -26,7 +26,8 @@ typedef struct {
 
 static played *games;
 static uint32_t count;
-static const arena_settings settings = {0, 11, 11, 4, 1, 15};
+static uint8_t seats; // of each game
+static arena_settings settings = {0, 11, 11, 0, 1, 15};
 static const arena_cell no_cells[1];
 
 static double seconds(clockid_t clock) {
@@ -56,15 +57,17 @@ static size_t get_record(FILE *file, uint8_t *to) {
 static void read_game(FILE *file, played *game) {
     uint8_t head[8];
     get(file, head, 8);
-    need(head[1] == 11 && head[2] == 11 && head[3] == 4 && head[7] == 2, "other games");
+    seats = settings.seats = seats ? seats : head[3];
+    need(head[1] == 11 && head[2] == 11 && head[7] == 2, "other games");
+    need(head[3] == seats && seats <= MOST_SEATS, "other seats");
     game->foods = head[6];
-    get(file, game->starts, 8);
+    get(file, game->starts, sizeof(arena_cell) * seats);
     get(file, game->food, 2 * game->foods);
     get(file, &game->turns, 4);
     need(game->turns <= MOST_TURNS, "a game is too long");
     game->length = get_record(file, game->last);
     for (uint32_t turn = 0; turn < game->turns; turn++) {
-        get(file, game->moves[turn], 4);
+        get(file, game->moves[turn], seats);
         get(file, game->words[turn], 8);
         game->length = get_record(file, game->last);
     }
@@ -87,12 +90,12 @@ static uint8_t *all_moves;
 static uint32_t *all_words;
 
 static void spread(void) {
-    all_moves = calloc(MOST_TURNS * count, 4);
+    all_moves = calloc(MOST_TURNS * count, seats);
     all_words = calloc(MOST_TURNS * count, 8);
     need(all_moves && all_words, "no memory");
     for (uint32_t turn = 0; turn < MOST_TURNS; turn++)
         for (uint32_t i = 0; i < count; i++) {
-            memcpy(all_moves + 4 * (turn * count + i), games[i].moves[turn], 4);
+            memcpy(all_moves + seats * (turn * count + i), games[i].moves[turn], seats);
             memcpy(all_words + 2 * (turn * count + i), games[i].words[turn], 8);
         }
 }
@@ -100,7 +103,7 @@ static void spread(void) {
 static void start_small(arena_small_game *small, uint32_t game) {
     static const uint8_t which[1] = {1};
     const played *from = &games[game];
-    arena_many_starts first = {from->starts, 4,     from->food, from->foods,
+    arena_many_starts first = {from->starts, seats, from->food, from->foods,
                                from->foods,  which, 1,          settings};
     need(arena_small_start(small, 1, &first) == 1, "a game does not start");
 }
@@ -110,13 +113,8 @@ static void step_all(arena_small_game *small) {
     uint32_t running = count;
     for (uint32_t turn = 0; turn < MOST_TURNS; turn++) {
         while (running && games[running - 1].turns <= turn) running--;
-        arena_many_orders orders = {all_moves + 4 * turn * count,
-                                    4 * running,
-                                    4,
-                                    all_words + 2 * turn * count,
-                                    2 * running,
-                                    2,
-                                    ARENA_NO_HAZARDS};
+        arena_many_orders orders = arena_orders_of(running, all_moves + seats * turn * count, seats,
+                                                   all_words + 2 * turn * count, 2);
         arena_small_step(small, running, &orders);
     }
 }
@@ -154,7 +152,7 @@ static double time_alone(int runs, uint32_t turns) {
         for (uint32_t i = 0; i < count; i++)
             for (uint32_t turn = 0; turn < games[i].turns; turn++) {
                 arena_many_orders orders =
-                    arena_orders_of(1, games[i].moves[turn], 4, games[i].words[turn], 2);
+                    arena_orders_of(1, games[i].moves[turn], seats, games[i].words[turn], 2);
                 arena_small_step(small + i, 1, &orders);
             }
         double took = seconds(CLOCK_THREAD_CPUTIME_ID) - from;
@@ -166,14 +164,14 @@ static double time_alone(int runs, uint32_t turns) {
 }
 
 static void start_by_hand(game *to, uint32_t number) {
-    xy starts[4], food[16];
-    memcpy(starts, games[number].starts, 8);
+    xy starts[MOST_SEATS], food[16];
+    memcpy(starts, games[number].starts, sizeof *starts * seats);
     memcpy(food, games[number].food, 2 * games[number].foods);
-    game_start(to, 0, 11, 11, 4, starts, games[number].foods, food, 1, 15);
+    game_start(to, 0, 11, 11, seats, starts, games[number].foods, food, 1, 15);
 }
 
 static double time_by_hand(int runs, uint32_t turns) {
-    size_t bytes = game_bytes(11, 11, 4);
+    size_t bytes = game_bytes(11, 11, seats);
     uint8_t *all = aligned_alloc(64, bytes * count), record[4000];
     double least = 1e9;
     for (int run = 0; run < runs; run++) {
@@ -183,7 +181,7 @@ static double time_by_hand(int runs, uint32_t turns) {
         for (uint32_t turn = 0; turn < MOST_TURNS; turn++) {
             while (running && games[running - 1].turns <= turn) running--;
             for (uint32_t i = 0; i < running; i++)
-                game_step((game *)(all + bytes * i), all_moves + 4 * (turn * count + i),
+                game_step((game *)(all + bytes * i), all_moves + seats * (turn * count + i),
                           all_words + 2 * (turn * count + i), 2);
         }
         double took = seconds(CLOCK_THREAD_CPUTIME_ID) - from;
@@ -202,12 +200,12 @@ static void play_records(const played *from) {
     static uint8_t record[2][4000];
     size_t length;
     int now = 0;
-    arena_seat_setup setup = {from->starts, 4,  from->food, from->foods, no_cells, 0, 0,
-                              11,           11, 1,          15,          0,        0};
+    arena_seat_setup setup = {from->starts, seats, from->food, from->foods, no_cells, 0, 0,
+                              11,           11,    1,          15,          0,        0};
     need(arena_start(&setup, record[now], 4000, &length) == ARENA_OK, "no start");
     for (uint32_t turn = 0; turn < from->turns; turn++) {
         arena_seat_orders orders = {
-            from->moves[turn], 4, from->words[turn], 2, no_cells, 0, no_cells, 0, 0, 0};
+            from->moves[turn], seats, from->words[turn], 2, no_cells, 0, no_cells, 0, 0, 0};
         uint8_t status = arena_turn(record[now], length, &orders, record[1 - now], 4000, &length);
         need(status == ARENA_OK, "no turn");
         now = 1 - now;
@@ -238,7 +236,7 @@ enum { SHARE = 256 };
 static void *work(void *at) {
     share *own = at;
     arena_small_game *small = calloc(SHARE, sizeof *small);
-    uint8_t moves[4 * SHARE];
+    uint8_t moves[MOST_SEATS * SHARE];
     uint32_t words[2 * SHARE], turn[SHARE];
     for (uint32_t i = 0; i < SHARE; i++) {
         start_small(small + i, (own->first + i) % count);
@@ -252,11 +250,11 @@ static void *work(void *at) {
                     start_small(small + i, number);
                     turn[i] = 0;
                 }
-                memcpy(moves + 4 * i, games[number].moves[turn[i]], 4);
+                memcpy(moves + seats * i, games[number].moves[turn[i]], seats);
                 memcpy(words + 2 * i, games[number].words[turn[i]], 8);
                 turn[i]++;
             }
-            arena_many_orders orders = {moves, 4 * SHARE, 4, words, 2 * SHARE, 2, ARENA_NO_HAZARDS};
+            arena_many_orders orders = arena_orders_of(SHARE, moves, seats, words, 2);
             arena_small_step(small, SHARE, &orders);
             own->turns += SHARE;
         }
