@@ -9,7 +9,7 @@ from typing import Any
 
 from program import line
 
-# Enough for every shape. Each block is a separate mapping, so thousands of them cost time.
+# Blocks, enough for every shape.
 BLOCKS = "512"
 
 
