@@ -449,8 +449,8 @@ class TestMemory:
 
 class TestLong:
     def test_two_million_lines(self):
-        """A host that plays for hours: each line is answered, in its place. The answers take 500 MB,
-        so they are read at once and kept nowhere."""
+        """A host that plays for hours: each line is answered, in its place. The answers take 500
+        MB, so they are read at once and kept nowhere."""
         head = [
             line(games=[{"game": "a", "quota": 4096}]),
             line(**new("a", "solo", 3, [("s", 1, 1)])),
