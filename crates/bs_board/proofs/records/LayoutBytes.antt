@@ -71,6 +71,18 @@ state_parts s rest bytes is =
       left = rest_is 7 bytes ∙ ap (drop 7) is;
     }
 
+-- the cells are skipped by their number
+pub cells_skipped : (s : Snake) (rest bytes : List ℕ) (count : ℕ) → bytes ≡ state_bytes s ++ (flat_map (cell_bytes 1) s.body ++ rest)
+    → count ≡ from_two_bytes (slice_index_or bytes 5 0) (slice_index_or bytes 6 0)
+    → (2 * count ≤ length (take (length bytes - 7) (drop 7 bytes))) × (drop (2 * count) (take (length bytes - 7) (drop 7 bytes)) ≡ rest)
+cells_skipped s rest bytes count is many =
+    let found = state_parts s rest bytes is in
+    let cells = flat_map (cell_bytes 1) s.body in
+    let pairs : length cells ≡ 2 * length s.body = length_of_pairs (cell_bytes 1) (λ p. refl) s.body in
+    let size : 2 * count ≡ length cells = ap (λ n. 2 * n) (many ∙ found.parts) ∙ sym pairs in
+    let long = ap length found.left ∙ length-append cells rest in
+    (omega arith, ap (drop (2 * count)) found.left ∙ drop_at cells rest (2 * count) (sym size))
+
 -- ---- the hazards
 
 pub no_hazards_are_split : (h : Option Hazards) (rest bytes : List ℕ) (hazardous : Bool) → hazardous ≡ false → hazardous ≡ is_some h → bytes ≡ hazard_bytes h ++ rest

@@ -13,7 +13,7 @@ use Rattle.bs_board.specs.inner.Writing.{Puts}
 use Rattle.bs_board.specs.records.Layout.{IsSnakeBytes}
 use Rattle.bs_board.specs.records.Record.{cause_byte, cell_bytes, killer_byte, snake_record, state_bytes, two_bytes}
 use Rattle.bs_board.specs.records.Stepped.{CanStep, stepped}
-use Rattle.bs_board.specs.records.Writing.{IsByteCell, IsWritable}
+use Rattle.bs_board.specs.records.Writing.{IsByteCell}
 use Rattle.bs_board.proofs.records.Fields.{raised_again}
 use Rattle.bs_board.proofs.records.FitSnake.{puts_all}
 use Rattle.bs_board.proofs.records.Lengths.{length_of_pairs, length_of_snake}

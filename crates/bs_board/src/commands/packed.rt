@@ -1,7 +1,7 @@
 //! The packed form of the directions of a move: for each snake a byte for the direction, the length
 //! of the id in two bytes, and the id.
 
-ghost use Rattle.std.specs.Prelude.{◌≡◌, ◌++◌, ◌∷◌, [], List, ℕ, MatchOption, OnOk, drop, if◌then◌else◌, is_ok, ◌+◌, ◌≤◌};
+ghost use Rattle.std.specs.Prelude.{IsOk, length, ◌≡◌, ◌++◌, ◌∷◌, [], List, ℕ, MatchOption, OnOk, drop, if◌then◌else◌, is_ok, ◌+◌, ◌≤◌};
 ghost use Rattle.bs_board.specs.declared.boards.point.Direction.{Direction as AnyDirection};
 ghost use Rattle.bs_board.specs.Texts.{is_text_below};
 ghost use Rattle.smallvec.specs.SmallVec.{HasRoomFor};
@@ -19,6 +19,9 @@ pub(crate) const INSIDE: usize = 32;
 
 /// The largest number of bytes of an id. No line has a longer one.
 const LONGEST: usize = 65_535;
+
+/// The most bytes of an id that are added one by one.
+const SHORT: usize = 8;
 
 /// The bytes of room for later entries that a full list takes beside those of the next one: the
 /// directions of eight snakes with ids of 20 bytes take one allocation.
@@ -85,6 +88,22 @@ fn make_room(bytes: &mut SmallVec<u8, INSIDE>, more: usize) -> Result<(), AllocE
     Ok(())
 }
 
+/// Adds the bytes of an id. Those of a short one are added one by one, which takes no call.
+#[inline(always)]
+fn push_id(bytes: &mut SmallVec<u8, INSIDE>, id: &[u8]) -> Result<(), AllocError>
+    requires { HasRoomFor bytes.old (length id.now) }
+    ensures ok { IsOk result }
+    ensures items { bytes.new.items ≡ bytes.old.items ++ id.now }
+{
+    if id.len() > SHORT {
+        return bytes.extend_from_slice(id);
+    }
+    for byte in id {
+        bytes.push_reserved(*byte);
+    }
+    Ok(())
+}
+
 /// Adds an entry. An id of more than 65,535 bytes is refused as if memory ran out.
 #[inline(always)]
 pub(crate) fn push_entry(
@@ -99,6 +118,8 @@ pub(crate) fn push_entry(
     }
     make_room(bytes, 3 + id.len())?;
     let [high, low] = two_bytes(id.len() as u16);
-    bytes.extend_from_slice(&[direction_byte(direction), high, low])?;
-    bytes.extend_from_slice(id)
+    bytes.push_reserved(direction_byte(direction));
+    bytes.push_reserved(high);
+    bytes.push_reserved(low);
+    push_id(bytes, id)
 }

@@ -1,6 +1,6 @@
 //! Views of the fields of a record. Ids, cells and snakes are borrowed from its bytes; the other
 //! fields are decoded. No board is built, and legality is not checked.
-ghost use Rattle.std.specs.Prelude.{◌≡◌, ◌++◌, ◌≤◌, ℕ, List, MatchOption, None, Option, false, is_some, count_by, drop, flat_map, if◌then◌else◌, length, take, unwrap_or};
+ghost use Rattle.std.specs.Prelude.{◌≡◌, ◌++◌, ◌≤◌, ℕ, List, MatchOption, None, Option, false, is_some, nat_le, count_by, drop, flat_map, length, take, unwrap_or};
 ghost use Rattle.bs_board.specs.declared.boards.board.Board.{Board as AnyBoard};
 ghost use Rattle.bs_board.specs.declared.boards.board.Mode.TheVariants.{Standard};
 ghost use Rattle.bs_board.specs.declared.boards.hazards.Hazards.{Hazards as AnyHazards};
@@ -236,24 +236,57 @@ impl SnakeBytes<'_> {
     }
 }
 
-fn count_if(lives: bool) -> usize
-    ensures { result ≡ (if lives then 1 else 0) }
+/// Whether a snake is alive, by the bytes of its record after the id.
+#[inline(always)]
+fn lives(state: &[u8]) -> bool
+    ensures { (s : AnySnake) (rest : List ℕ) → state.now ≡ state_bytes s ++ (flat_map (cell_bytes 1) s.body ++ rest)
+        → result ≡ is_living s }
 {
-    if lives { 1 } else { 0 }
+    match state {
+        [_, cause, _, _, _, _, _, ..] => *cause == 0,
+        _ => false,
+    }
 }
 
-/// Counts the living among the first `count` snakes.
-fn count_living(count: usize, bytes: &[u8]) -> usize
-    ensures { (snakes : List AnySnake) → length snakes ≡ count → bytes.now ≡ flat_map snake_record snakes → result ≡ count_by is_living snakes }
+/// Skips the bytes after a snake's id. `None` if they are too few for a record.
+#[inline(always)]
+fn skip_state(state: &[u8]) -> Option<&[u8]>
+    ensures { (s : AnySnake) (rest : List ℕ) → state.now ≡ state_bytes s ++ (flat_map (cell_bytes 1) s.body ++ rest)
+        → MatchOption result ⊥ (λ left. left.now ≡ rest) }
 {
-    let mut living = 0;
+    match state {
+        [_, _, _, _, _, high, low, cells @ ..] => {
+            let size = CELL * usize::from(from_two_bytes(*high, *low));
+            if cells.len() < size {
+                return None;
+            }
+            Some(cells.split_at(size).1)
+        }
+        _ => None,
+    }
+}
+
+/// Whether at most `most` of the first `count` snakes are alive.
+fn live_at_most(most: usize, count: usize, bytes: &[u8]) -> bool
+    ensures { (snakes : List AnySnake) → length snakes ≡ count → bytes.now ≡ flat_map snake_record snakes
+        → result ≡ nat_le (count_by is_living snakes) most }
+{
+    let mut spare = most;
     let mut left = bytes;
     for _ in 0..count {
-        let (snake, rest) = split_snake(left);
-        living += count_if(snake.is_living());
+        let (_, state) = split_id(left);
+        if lives(state) {
+            if spare == 0 {
+                return false;
+            }
+            spare -= 1;
+        }
+        let Some(rest) = skip_state(state) else {
+            return true;
+        };
         left = rest;
     }
-    living
+    true
 }
 
 /// Skips the records of the first `count` snakes.
@@ -279,6 +312,6 @@ impl BoardBytes<'_> {
     pub fn is_over(&self) -> bool
         ensures { (b : AnyBoard) → IsBoardBytes b self.now → result ≡ is_over b }
     {
-        count_living(self.seats, self.snakes) <= self.mode.last_living()
+        live_at_most(self.mode.last_living(), self.seats, self.snakes)
     }
 }

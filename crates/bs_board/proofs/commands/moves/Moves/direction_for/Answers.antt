@@ -1,7 +1,7 @@
-use Rattle.std.proofs.Common.{◌≡◌, ◌+◌, ◌≤◌, arith, ap, drop, length, refl, rules, sym, subst, ◌∙◌}
+use Rattle.std.proofs.Common.{arith, ap, drop, refl, sym, ◌∙◌}
 use Rattle.std.proofs.lemmas.List.{drop-drop}
 use Rattle.bs_board.specs.commands.Orders.{given_to}
-use Rattle.bs_board.specs.inner.Packed.{packed, unpacked}
+use Rattle.bs_board.specs.inner.Packed.{packed}
 use Rattle.bs_board.proofs.commands.PackedMoves.{given_here, given_later, none_given, none_left}
 use Rattle.bs_board.proofs.commands.moves.Moves.direction_for.Goals as goal
 

@@ -1,4 +1,4 @@
-use Rattle.std.proofs.Common.{◌≡◌, ◌+◌, ◌∷◌, arith, ap, drop, sym, ◌∙◌}
+use Rattle.std.proofs.Common.{◌+◌, ◌∷◌, arith, ap, drop, sym, ◌∙◌}
 use Rattle.std.proofs.lemmas.List.{drop-drop}
 use Rattle.bs_board.specs.declared.boards.point.Direction.TheVariants.{Up}
 use Rattle.bs_board.specs.commands.Orders.{is_ascending}
