@@ -81,20 +81,27 @@ no_cells : (cells : List Point) → length (food_bytes cells) ≡ 0 → cells �
 no_cells [] none = refl
 no_cells (p ∷ cells) none = let long = food_length (p ∷ cells) in absurd (omega arith)
 
--- in constrictor there is no food, and none is added
-pub stays_empty : (orders : Orders) (b : Board) (moves : List (List ℕ × Direction)) (plane : Plane) (there food : List ℕ) → b.mode ≡ Constrictor
+-- where there is no food, none is left
+pub has_none : (b : Board) (moves : List (List ℕ × Direction)) (plane : Plane) (there food : List ℕ)
     → there ≡ food_bytes b.food → eqb (length there) 0 ≡ true → ShowsSnakes b (map (onward b moves) b.snakes) plane → food ≡ []
-    → HasFood (refilled_in b.mode orders (fed_onward b moves)) plane food
-stays_empty orders b moves plane there food mode is empty shows none =
+    → HasFood (fed_onward b moves) plane food
+has_none b moves plane there food is empty shows none =
     let gone : b.food ≡ [] = no_cells b.food (ap length (sym is) ∙ eqb-true (length there) 0 empty) in
     let left : food_left (map (onward b moves) b.snakes) b.food ≡ b.food = ap (food_left (map (onward b moves) b.snakes)) gone ∙ sym gone in
-    let same : refilled_in b.mode orders (fed_onward b moves) ≡ record b { snakes = map (onward b moves) b.snakes } =
-    ap (λ m. refilled_in m orders (fed_onward b moves)) mode ∙ ap (λ l. record b { food = l; snakes = map (onward b moves) b.snakes }) left in
+    let same : fed_onward b moves ≡ record b { snakes = map (onward b moves) b.snakes } = ap (λ l. record b { food = l; snakes = map (onward b moves) b.snakes }) left in
     let has : HasFood (record b { snakes = map (onward b moves) b.snakes }) plane food = record {
       shows = record { width = shows.width; height = shows.height; cells = shows.cells };
       written = none ∙ ap food_bytes (sym gone);
     } in
     subst (λ (x : Board). HasFood x plane food) (sym same) has
+
+-- in constrictor there is no food, and none is added
+pub stays_empty : (orders : Orders) (b : Board) (moves : List (List ℕ × Direction)) (plane : Plane) (there food : List ℕ) → b.mode ≡ Constrictor
+    → there ≡ food_bytes b.food → eqb (length there) 0 ≡ true → ShowsSnakes b (map (onward b moves) b.snakes) plane → food ≡ []
+    → HasFood (refilled_in b.mode orders (fed_onward b moves)) plane food
+stays_empty orders b moves plane there food mode is empty shows none =
+    let same : refilled_in b.mode orders (fed_onward b moves) ≡ fed_onward b moves = ap (λ m. refilled_in m orders (fed_onward b moves)) mode in
+    subst (λ (x : Board). HasFood x plane food) (sym same) (has_none b moves plane there food is empty shows none)
 
 -- in the other modes food is added
 pub refills_in : {E : Type 0} (mode : Mode) (orders : Orders) → ((b : Board) → refilled_in mode orders b ≡ refilled orders b) → (result : Result Bool E) (parts : BoardBytes)

@@ -1,6 +1,7 @@
 -- The step of a living snake in a turn in which it does not go out.
 use Rattle.std.proofs.Common.{◌≡◌, ℕ, suc, ◌+◌, ◌-◌, ◌/◌, ◌<◌, ◌≤◌, Bool, true, false, not, ◌&&◌, cond, List, [], ◌∷◌, ◌++◌, length, take, get_or, Option, Some, None, count_by, refl, sym, subst, ap, ◌∙◌, arith, inl, inr, append-nil, leb}
 use Rattle.std.specs.Option.{IfSome}
+use Rattle.std.specs.Prelude.{is_some}
 use Rattle.std.specs.List.{list_any}
 use Rattle.std.proofs.lemmas.Bool.{cases_Bool, le-leb}
 use Rattle.std.proofs.lemmas.List.{get_or-take, length-take-le, take_all}
@@ -141,6 +142,14 @@ advanced_is_moved b given s wrap next head second lives long same first after is
     ∙ ap (λ p. neighbor (wrap_of b) (head_of s.body) (direction_taken (wrap_of b) given (head_of s.body ∷ p ∷ []))) after in
     ap (λ p. advanced p s) there ∙ stepped_is_moved (wrap_of b) given s lives long
 
+-- a given direction needs no second part
+pub given_is_moved : (b : Board) (given : Option Direction) (s : Snake) (wrap : Option (ℕ × ℕ)) (next head : Point) → is_living s ≡ true → 3 ≤ length s.body
+    → wrap ≡ wrap_of b → head ≡ get_or s.body 0 origin → is_some given ≡ true
+    → next ≡ neighbor wrap head (direction_taken wrap given (head ∷ head ∷ [])) → advanced next s ≡ moved (wrap_of b) given s
+given_is_moved b None s wrap next head lives long same first some is = absurd cc
+given_is_moved b (Some direction) s wrap next head lives long same first some is =
+    advanced_is_moved b (Some direction) s wrap next head (get_or s.body 1 origin) lives long same first refl is
+
 -- ---- counts
 
 count_push : (f : Point → Bool) (xs : List Point) (x : Point) → count_by f (xs ++ x ∷ []) ≡ count_by f xs + cond {A = ℕ} (f x) 1 0
@@ -175,23 +184,32 @@ module _ (head : Point) (s : Snake) (long : 3 ≤ length s.body) where
       let all : take (length s.body - 1 + 1) s.body ≡ s.body = ap (λ n. take n s.body) whole ∙ take_all (length s.body) s.body (omega arith) in
       sym (ap (count_by (is_same_cell p)) all) ∙ more
 
-  with_head : (p : Point) → count_by (is_same_cell p) (head ∷ take (length s.body - 1) s.body) ≡ count_by (is_same_cell p) (take (length s.body - 1) s.body) + cond {A = ℕ} (is_same_cell p head) 1 0
-  with_head p = let one = sum_by-cons (λ r. cond {A = ℕ} (is_same_cell p r) 1 0) head (take (length s.body - 1) s.body) in omega arith
+  with_head : (body : List Point) (p : Point) → count_by (is_same_cell p) (head ∷ body) ≡ count_by (is_same_cell p) body + cond {A = ℕ} (is_same_cell p head) 1 0
+  with_head body p = let one = sum_by-cons (λ r. cond {A = ℕ} (is_same_cell p r) 1 0) head body in omega arith
 
-  -- the last part is taken off, the new head is counted
-  pub steps_on : (last : Point) (plane mid new : Plane) → last ≡ get_or s.body (length s.body - 1) origin → TakesPart last plane mid → Changes (with_part head) mid new
-      → SwapsBody s.body (head ∷ take (length s.body - 1) s.body) plane new
-  steps_on last plane mid new is takes adds =
-      let front = take (length s.body - 1) s.body in
+  -- the new head before the body is the moved body and the last part
+  both_ways : (last : Point) → last ≡ get_or s.body (length s.body - 1) origin → (p : Point)
+      → count_by (is_same_cell p) (head ∷ s.body) ≡ count_by (is_same_cell p) (head ∷ take (length s.body - 1) s.body) + cond {A = ℕ} (is_same_cell p last) 1 0
+  both_ways last is p =
+      let long = with_head s.body p in
+      let short = with_head (take (length s.body - 1) s.body) p in
+      let without : count_by (is_same_cell p) s.body ≡ count_by (is_same_cell p) (take (length s.body - 1) s.body) + cond {A = ℕ} (is_same_cell p last) 1 0 = rw is (without_last p) in
+      omega arith
+
+  -- the new head is counted, the last part is taken off
+  pub steps_on : (last : Point) (plane mid now : Plane) → last ≡ get_or s.body (length s.body - 1) origin → Changes (with_part head) plane mid → TakesPart last mid now
+      → SwapsBody s.body (head ∷ take (length s.body - 1) s.body) plane now
+  steps_on last plane mid now is adds takes =
+      let body = head ∷ take (length s.body - 1) s.body in
       record {
-        width = adds.width ∙ takes.width;
-        height = adds.height ∙ takes.height;
+        width = takes.width ∙ adds.width;
+        height = takes.height ∙ adds.height;
         cells = λ on shows.
-            let before : Shows (with_part last (with_body front on)) plane =
-            same_cells plane.width plane.height _ _ plane.cells.items
-            (λ p. sym (body_more front s.body last (λ q. without_last q ∙ ap (λ r. count_by (is_same_cell q) front + cond {A = ℕ} (is_same_cell q r) 1 0) (sym is)) on p)) shows in
-            same_cells new.width new.height _ _ new.cells.items (body_more front (head ∷ front) head with_head on)
-            (adds.cells (with_body front on) (takes.cells (with_body front on) before));
+            let added : Shows (with_body (head ∷ s.body) on) mid =
+            same_cells mid.width mid.height _ _ mid.cells.items (body_more s.body (head ∷ s.body) head (with_head s.body) on) (adds.cells (with_body s.body on) shows) in
+            let before : Shows (with_part last (with_body body on)) mid =
+            same_cells mid.width mid.height _ _ mid.cells.items (λ p. sym (body_more body (head ∷ s.body) last (both_ways last is) on p)) added in
+            takes.cells (with_body body on) before;
       }
 
   -- and a part is repeated

@@ -11,8 +11,9 @@ ghost use Rattle.bs_board.specs.records.Layout.{IsBoardBytes};
 ghost use Rattle.bs_board.specs.records.Record.{cell_bytes, snake_record, two_bytes};
 ghost use Rattle.bs_board.specs.records.Writing.{IsByteCell};
 ghost use Rattle.bs_board.specs.declared.boards.board.Mode.TheVariants.{Constrictor, Standard};
+ghost use Rattle.bs_rules.specs.Motion.{moved};
 ghost use Rattle.bs_plane.specs.Onward.{AreAlone, MovesSnakes, ShowsSnakes};
-ghost use Rattle.bs_plane.specs.inner.Onward.{HasGround, IsFed, IsStep, MovesSnake, SeesSnake, SwapsBody, repeated, stepped_by};
+ghost use Rattle.bs_plane.specs.inner.Onward.{HasGround, IsFed, IsStep, MovesSnake, SeesSnake, SwapsBody, advanced, repeated, stepped_by};
 ghost use Rattle.bs_plane.specs.Plane.{Shows};
 ghost use Rattle.bs_plane.specs.declared.cell.Cell.{Cell as AnyCell};
 ghost use Rattle.bs_board.specs.declared.boards.point.Point.{Point as AnyPoint};
@@ -112,6 +113,33 @@ fn fed_in(mode: Mode, snake: &SnakeBytes<'_>, head: Point, eats: bool) -> Option
     }
 }
 
+/// The cell that the head steps to; `None` if a part that this goes by is not on the board.
+#[inline(always)]
+fn head_after(
+    board: &BoardBytes<'_>,
+    snake: &SnakeBytes<'_>,
+    given: Option<Direction>,
+) -> Option<Point>
+    requires width { is_side board.now.width ≡ true }
+    requires height { is_side board.now.height ≡ true }
+    requires long { 6 ≤ length snake.now.body.now }
+    ensures { IfSome result (λ next. (b : AnyBoard) (s : AnySnake) → IsBoardBytes b board.now → SeesSnake s snake.now
+        → advanced next s ≡ moved (wrap_of b) given s) }
+{
+    let head = snake.part(0);
+    if !head.is_on_board(board.width, board.height) {
+        return None;
+    }
+    if given.is_some() {
+        return Some(next_head(wrap_of(board), given, head, head));
+    }
+    let second = snake.part(1);
+    if !second.is_on_board(board.width, board.height) {
+        return None;
+    }
+    Some(next_head(wrap_of(board), given, head, second))
+}
+
 /// What a living snake does; `None` if it is hurt, starves or leaves the board.
 #[inline(always)]
 fn step_of(
@@ -126,13 +154,7 @@ fn step_of(
     ensures { IfSome result (λ step. (b : AnyBoard) (s : AnySnake) → IsBoardBytes b board.now → HasGround b plane.now → SeesSnake s snake.now
         → IsStep b given s step) }
 {
-    let (head, second) = (snake.part(0), snake.part(1));
-    if !head.is_on_board(board.width, board.height)
-        || !second.is_on_board(board.width, board.height)
-    {
-        return None;
-    }
-    let next = next_head(wrap_of(board), given, head, second);
+    let next = head_after(board, snake, given)?;
     match plane.at(next) {
         None => None,
         Some(there) => {
@@ -151,10 +173,7 @@ fn count_step(plane: &mut Plane, snake: &SnakeBytes<'_>, step: Step) -> bool
     ensures { IsTrue result → (s : AnySnake) → SeesSnake s snake.now → SwapsBody s.body (stepped_by step s).body plane.old plane.new }
 {
     let parts = snake.body.len() / 2;
-    if !plane.remove_part(snake.part(parts - 1)) {
-        return false;
-    }
-    if !plane.add_part(step.head) {
+    if !plane.add_part(step.head) || !plane.remove_part(snake.part(parts - 1)) {
         return false;
     }
     if step.grows {
@@ -241,7 +260,7 @@ fn move_living(
     let Some(step) = step_of(plane, board, snake, given) else {
         return Ok(None);
     };
-    if !step.head.is_on_board(board.width, board.height) || !count_step(plane, snake, step) {
+    if !step.head.is_on_board(plane.width, plane.height) || !count_step(plane, snake, step) {
         return Ok(None);
     }
     push_stepped(into, snake, step)?;

@@ -46,8 +46,7 @@ impl Plane {
         if !cell.is_on_board(self.width, self.height) {
             return None;
         }
-        let place = usize::from(cell.y.unsigned_abs()) * usize::from(self.width)
-            + usize::from(cell.x.unsigned_abs());
+        let place = cell.y as usize * usize::from(self.width) + cell.x as usize;
         if place < self.cells.len() {
             Some(place)
         } else {
@@ -74,14 +73,10 @@ impl Plane {
         match self.place(cell) {
             None => false,
             Some(place) => {
-                let there = self.cells[place];
-                if there.parts == u16::MAX {
+                if self.cells[place].parts == u16::MAX {
                     return false;
                 }
-                self.cells[place] = Cell {
-                    parts: there.parts + 1,
-                    ..there
-                };
+                self.cells[place].parts += 1;
                 true
             }
         }
@@ -95,14 +90,10 @@ impl Plane {
         match self.place(cell) {
             None => false,
             Some(place) => {
-                let there = self.cells[place];
-                if there.parts == 0 {
+                if self.cells[place].parts == 0 {
                     return false;
                 }
-                self.cells[place] = Cell {
-                    parts: there.parts - 1,
-                    ..there
-                };
+                self.cells[place].parts -= 1;
                 true
             }
         }

@@ -62,6 +62,24 @@ fn show(plane: &mut Plane, board: &Board) -> Result<bool, AllocError>
     Ok(plane.add_snakes(board.snakes.as_slice()))
 }
 
+/// Removes what was eaten, and appends the food that is left. False if the plane cannot follow.
+fn leave_food(
+    plane: &mut Plane,
+    board: &BoardBytes<'_>,
+    heads: &[Point],
+    food: &mut Vec<u8>,
+) -> Result<bool, AllocError>
+    ensures { IfOk result (λ done. IsTrue done → Refills (λ b. b) board.now heads.now plane.old food.old.items plane.new food.new.items) }
+{
+    if board.food.is_empty() {
+        return Ok(true);
+    }
+    if !remove_eaten(plane, heads) {
+        return Ok(false);
+    }
+    keep_food(plane, board.food, food)
+}
+
 /// Removes what was eaten, adds new food, and then the food that the move gives. False if the plane
 /// cannot follow.
 fn refill_food(
@@ -73,10 +91,7 @@ fn refill_food(
 ) -> Result<bool, AllocError>
     ensures { IfOk result (λ done. IsTrue done → Refills (λ b. refilled orders.now b) board.now heads.now plane.old food.old.items plane.new food.new.items) }
 {
-    if !remove_eaten(plane, heads) {
-        return Ok(false);
-    }
-    if !keep_food(plane, board.food, food)? {
+    if !leave_food(plane, board, heads, food)? {
         return Ok(false);
     }
     let words = orders.words.as_slice();

@@ -149,7 +149,11 @@ pub fn next_head(
     requires second { is_near LONGEST_SIDE LONGEST_SIDE second ≡ true }
     ensures { result ≡ neighbor wrap head (direction_taken wrap given (head ∷ second ∷ [])) }
 {
-    neighbor(wrap, head, direction_taken(wrap, given, &[head, second]))
+    let direction = match given {
+        Some(direction) => direction,
+        None => onward(wrap, &[head, second]),
+    };
+    neighbor(wrap, head, direction)
 }
 
 /// Moves any number of seats in place, each in the direction given for its id. A whole turn moves
