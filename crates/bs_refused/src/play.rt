@@ -77,7 +77,7 @@ pub fn answer_next(alloc: Global, core: &mut Core<CAP>, worker: usize) -> Result
     let Some(next) = core.next_command(worker) else {
         return Ok(false);
     };
-    core.answer_here(alloc, worker, next.game as usize)?;
+    core.answer_here(alloc, worker, next)?;
     Ok(true)
 }
 

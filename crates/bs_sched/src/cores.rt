@@ -72,6 +72,7 @@ impl<const CAP: usize> Model for Core<CAP> {
 impl<const CAP: usize> Core<CAP> {
     /// Queues a command for the open stay of that row. The stay keeps the handle, and the journal
     /// another one. After an error the core is unchanged.
+    #[inline(always)]
     pub fn hand(&mut self, game: usize, command: SharedCommand) -> Result<(), AllocError>
         requires game { game < length self.old.games.lanes }
         requires open { (lane_of self.old.games.lanes game).is_open ≡ true }

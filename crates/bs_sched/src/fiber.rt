@@ -62,6 +62,7 @@ pub(crate) fn keeps_limits(command: &Command)
 }
 
 /// Applies an answer's effect to the newest board.
+#[inline(always)]
 fn change_last(last: &mut Option<KeptBoard>, effect: Effect)
     ensures { last.new ≡ last_after effect last.old }
 {
@@ -240,6 +241,7 @@ impl Fiber {
     }
 
     /// Appends the reply, keeps the newest board and ends the command.
+    #[inline(always)]
     pub(crate) fn answer(&mut self, answer: Answer)
         requires out { (worker : ℕ) × (occupies worker self.old ≡ true) }
         requires reply { answer.reply ≡ (lane_outcome self.old).reply }

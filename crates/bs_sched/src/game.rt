@@ -91,6 +91,7 @@ fn open_keys<const CAP: usize>(
 }
 
 /// Applies an answer's effect to the records.
+#[inline(always)]
 #[tactic(auto, using(crate::proofs::KeptRecords::nothing_left, crate::proofs::KeptRecords::record_is_small))]
 fn change_records<const CAP: usize>(heap: &mut TagHeap<CAP>, pool: &mut Pool<CAP>, effect: &Effect)
     requires room { 0 < heap.old.index_room }

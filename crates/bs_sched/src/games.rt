@@ -1,6 +1,6 @@
 //! All stays of a core, and the pool of their blocks. Clauses see them as lanes and as the places
 //! of their records.
-ghost use Rattle.std.specs.Prelude.{◌≡◌, ◌+◌, ◌≤◌, ◌<◌, ◌∷◌, ◌++◌, [], true, false, not, All, length, OnOk, OnErr, IfOk, IfErr, MatchOption, ◌↔◌, IsTrue, ℕ, List, None, slice_index_or, slice_set};
+ghost use Rattle.std.specs.Prelude.{◌≡◌, ◌+◌, ◌≤◌, ◌<◌, ◌∷◌, ◌++◌, [], true, false, not, All, length, OnOk, OnErr, IfOk, IfErr, IfSome, MatchOption, ◌↔◌, IsTrue, ℕ, List, None, slice_index_or, slice_set};
 ghost use Rattle.std.specs.List.{list_all, list_any};
 ghost use Rattle.bs_board.specs.plans.Plan.{IsFitPlan, is_fit_row};
 ghost use Rattle.bs_pool.specs.Ledger.{free, opened as new_pool, size};
@@ -499,8 +499,9 @@ impl<const CAP: usize> Games<CAP> {
     }
 
     /// The first ready job of the open stays at row `first` or later, else of an earlier one.
+    #[inline(never)]
     #[tactic(auto, using(crate::proofs::FoundJobs::none_anywhere, crate::proofs::ListedGames::listed_games))]
-    pub(crate) fn find(&self, first: usize) -> Option<JobName>
+    fn search(&self, first: usize) -> Option<JobName>
         ensures { MatchOption result (AreNoneOpenReady self.now.lanes) (IsReadyJob self.now.lanes) }
     {
         let stays = self.registry.as_slice();
@@ -508,6 +509,31 @@ impl<const CAP: usize> Games<CAP> {
         match find_job(&self.list, stays, from, stays.len()) {
             Some(job) => Some(job),
             None => find_job(&self.list, stays, 0, from),
+        }
+    }
+
+    /// A ready job of the stay of that row; `None` if it has none, or if there is no such stay.
+    #[inline(always)]
+    #[tactic(auto, using(crate::proofs::ListedGames::lane_read, crate::proofs::ListedGames::many_lanes))]
+    fn ready_at(&self, row: usize) -> Option<JobName>
+        ensures { IfSome result (IsReadyJob self.now.lanes) }
+    {
+        let _games = self.count_rows();
+        if row >= self.list.len() {
+            return None;
+        }
+        ready_job(&self.list[row], row)
+    }
+
+    /// A ready job of the stay of row `first`, without a search; if it has none, the first one of
+    /// the open stays at later rows, else of the earlier ones.
+    #[inline(always)]
+    pub(crate) fn find(&self, first: usize) -> Option<JobName>
+        ensures { MatchOption result (AreNoneOpenReady self.now.lanes) (IsReadyJob self.now.lanes) }
+    {
+        match self.ready_at(first) {
+            Some(job) => Some(job),
+            None => self.search(first),
         }
     }
 

@@ -57,6 +57,7 @@ impl<const CAP: usize> Core<CAP> {
 
     /// Finds a job for the worker: in the game of the last job, while that has a ready job; then in
     /// the later games, then in the earlier ones.
+    #[inline(always)]
     pub(crate) fn find(&self, worker: usize) -> Found
         ensures { FindsJob worker self.now.games.lanes result }
     {

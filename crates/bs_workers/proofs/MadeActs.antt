@@ -8,7 +8,7 @@ use Rattle.bs_pool.specs.Ledger.{size}
 use Rattle.bs_sched.specs.declared.event.Event.{Event}
 use Rattle.bs_sched.specs.declared.event.Event.TheVariants as event
 use Rattle.bs_sched.specs.Core.{CoreView, core_after, opened_core}
-use Rattle.bs_sched.specs.Answering.{AreNextParts, CanAnswer, answer_events, begin_job, job_events, join_job, move_events, next_parts, part_puts, part_takes}
+use Rattle.bs_sched.specs.Answering.{AreNextParts, CanAnswer, answer_events, begin_job, job_events, join_job, move_events, part_puts, part_takes}
 use Rattle.bs_sched.specs.Games.{GamesView, after}
 use Rattle.bs_sched.specs.Lane.{Lane, closed_lane, empty_lane, with_waiting}
 use Rattle.bs_sched.specs.Machine.{is_enabled_there, lane_effect, lane_of}
@@ -120,9 +120,8 @@ pub record IsHere (cap : ℕ) (old new : CoreView) (worker game parts : ℕ) : T
   pub is : new ≡ core_run cap old (answer_events worker game parts)
 
 pub here : (cap : ℕ) (old new : CoreView) (worker game parts : ℕ) → CanAnswer old worker game parts
-    → new ≡ core_run cap old (answer_events worker game (next_parts (lane_of old.games.lanes game))) → IsHere cap old new worker game parts
-here cap old new worker game parts can is =
-    record { enabled = can.enabled; are = can.are; is = is ∙ ap (λ n. core_run cap old (answer_events worker game n)) (sym can.are.is) }
+    → new ≡ core_run cap old (answer_events worker game parts) → IsHere cap old new worker game parts
+here cap old new worker game parts can is = record { enabled = can.enabled; are = can.are; is = is }
 
 lanes_here : (cap : ℕ) (old new : CoreView) (worker game parts : ℕ) → IsHere cap old new worker game parts → AreAnswered game old.games.lanes new.games.lanes
 lanes_here cap old new worker game parts is =

@@ -4,7 +4,7 @@
 ghost use Rattle.std.specs.Prelude.{◌≡◌, ◌+◌, ◌≤◌, ◌∷◌, ◌++◌, [], true, false, IfErr, IfOk, OnOk, IsTrue, map};
 ghost use Rattle.std.specs.List.{filter_map};
 ghost use Rattle.bs_pool.specs.Ledger.{size};
-ghost use Rattle.bs_sched.specs.Answering.{HasNoneWaiting};
+ghost use Rattle.bs_sched.specs.Answering.{CanAnswer, HasNoneWaiting};
 ghost use Rattle.bs_sched.specs.Core.{opened_core};
 ghost use Rattle.bs_sched.specs.Journal.{KeepsApart, setting_in};
 ghost use Rattle.bs_sched.specs.Machine.{is_enabled};
@@ -106,9 +106,25 @@ impl<const CAP: usize, G: Gate> Alone<'_, CAP, G> {
         self.may_run(begin) && self.may_run_parts(game, next.parts) && self.may_run(join)
     }
 
+    /// Answers that next command, so that one command fewer waits.
+    #[inline(always)]
+    pub(crate) fn answer(&mut self, next: NextCommand) -> Result<(), Run>
+        requires { CanAnswer self.old.core self.old.worker next.game next.parts }
+        ensures made { OnOk result (Makes [] self.old.core self.new.core) }
+        ensures fewer { OnOk result (waiting_in self.new.core.games.lanes + 1 ≡ waiting_in self.old.core.games.lanes) }
+        ensures worker { self.new.worker ≡ self.old.worker }
+        ensures gate { self.new.gate ≡ self.old.gate }
+        ensures cause { IfErr result (IsCause (G.may_refuse self.old.gate.now)) }
+    {
+        if !self.may_answer(next) {
+            return Err(Run::Broken);
+        }
+        Ok(self.core.answer_here(self.alloc, self.worker, next)?)
+    }
+
     /// Answers the next command, so that one command fewer waits. Returns false if none waits.
     #[inline(always)]
-    pub(crate) fn step(&mut self) -> Result<bool, Run>
+    fn step(&mut self) -> Result<bool, Run>
         requires { self.old.worker ≤ self.old.core.games.workers }
         ensures made { OnOk result (Makes [] self.old.core self.new.core) }
         ensures fewer { IfOk result (λ more. more ≡ true → waiting_in self.new.core.games.lanes + 1 ≡ waiting_in self.old.core.games.lanes) }
@@ -120,11 +136,7 @@ impl<const CAP: usize, G: Gate> Alone<'_, CAP, G> {
         let Some(next) = self.core.next_command(self.worker) else {
             return Ok(false);
         };
-        if !self.may_answer(next) {
-            return Err(Run::Broken);
-        }
-        self.core
-            .answer_here(self.alloc, self.worker, next.game as usize)?;
+        self.answer(next)?;
         Ok(true)
     }
 
@@ -143,6 +155,7 @@ impl<const CAP: usize, G: Gate> Alone<'_, CAP, G> {
     }
 
     /// Queues the command for the game of that row. `Broken` if the stay is not open.
+    #[inline(always)]
     fn hand(&mut self, stay: usize, command: SharedCommand) -> Result<(), Run>
         ensures made { OnOk result (Makes (act.Hand stay command ∷ []) self.old.core self.new.core) }
         ensures journal { OnOk result (self.new.core.journal ≡ self.old.core.journal ++ event.Hand stay command ∷ []) }

@@ -1,6 +1,7 @@
 //! The player of one row: it answers each command where it is, or has threads run the parts of a
 //! move.
 ghost use Rattle.std.specs.Prelude.{◌≡◌, ◌≤◌, IfErr, OnOk};
+ghost use Rattle.bs_sched.specs.Answering.{CanAnswer};
 ghost use Rattle.bs_workers.specs.inner.Apart.{GoesOn};
 ghost use Rattle.bs_workers.specs.inner.Stops.{IsStopCause};
 
@@ -71,17 +72,17 @@ impl<const CAP: usize, R: Threads + Sync, G: Gate> Together<'_, CAP, R, G> {
         Ok(())
     }
 
-    /// Answers the next command where it is. Returns false if there is none.
+    /// Answers that next command where it is.
     #[inline(always)]
-    fn answer_here(&mut self) -> Result<bool, Stop>
-        requires { self.old.alone.worker ≤ self.old.alone.core.games.workers }
+    fn answer_here(&mut self, next: NextCommand) -> Result<(), Stop>
+        requires { CanAnswer self.old.alone.core self.old.alone.worker next.game next.parts }
         ensures made { OnOk result (GoesOn self.old.alone.core self.new.alone.core) }
         ensures worker { self.new.alone.worker ≡ self.old.alone.worker }
         ensures gate { self.new.alone.gate ≡ self.old.alone.gate }
         ensures cause { IfErr result (IsStopCause (G.may_refuse self.old.alone.gate.now)) }
     {
-        match self.alone.step() {
-            Ok(goes_on) => Ok(goes_on),
+        match self.alone.answer(next) {
+            Ok(()) => Ok(()),
             Err(Run::Memory) => Err(Stop::Memory),
             Err(Run::Broken) => Err(Stop::Refused),
         }
@@ -96,18 +97,16 @@ impl<const CAP: usize, R: Threads + Sync, G: Gate> Together<'_, CAP, R, G> {
         ensures gate { self.new.alone.gate ≡ self.old.alone.gate }
         ensures cause { IfErr result (IsStopCause (G.may_refuse self.old.alone.gate.now)) }
     {
-        if self.threads <= 1 {
-            return Ok(self.answer_here()?);
-        }
         let Some(next) = self.alone.core.next_command(self.alone.worker) else {
             return Ok(false);
         };
         self.games = self.games_with(next);
         if self.is_shared(next) {
             self.share(next.parts as usize)?;
-            return Ok(true);
+        } else {
+            self.answer_here(next)?;
         }
-        Ok(self.answer_here()?)
+        Ok(true)
     }
 
     /// Answers the commands that are queued, of which there are at most that many.

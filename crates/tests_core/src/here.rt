@@ -30,7 +30,7 @@ pub(crate) fn answer_next(
     let Some(next) = core.next_command(worker) else {
         return Ok(None);
     };
-    core.answer_here(alloc, worker, next.game as usize)?;
+    core.answer_here(alloc, worker, next)?;
     Ok(Some((next.game, next.parts)))
 }
 

@@ -6,7 +6,7 @@ use Rattle.bs_sched.specs.inner.GamesLayout.{lanes_in, numbers_in}
 use Rattle.bs_sched.specs.inner.Taking.{AreNoneOpenReady, AreNoneReadyBetween, IsReadyJob}
 use Rattle.bs_sched.proofs.FoundJobs.{found_before}
 use Rattle.bs_sched.proofs.OpenRows.{as_many_numbers, numbers_listed}
-use Rattle.bs_sched.proofs.games.Games.find.Goals as goal
+use Rattle.bs_sched.proofs.games.Games.search.Goals as goal
 
 pub returns-in-None : goal.returns-in-None
 returns-in-None g c =
