@@ -16,3 +16,4 @@ pub mod ReplyText
 pub mod ShownCells
 pub mod ShownSnakes
 pub mod Texts
+pub mod Writing

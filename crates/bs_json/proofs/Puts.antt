@@ -1,9 +1,9 @@
 -- Pieces that are appended one after the other.
 use Rattle.std.proofs.Common.{◌≡◌, ℕ, suc, ◌+◌, ◌-◌, ◌^◌, ◌≤◌, ◌<◌, List, [], ◌∷◌, ◌++◌, length, take, drop, min, refl, sym, ap, ap₂, ◌∙◌, append_assoc, length-append, take-append-drop, arith}
 use Rattle.std.proofs.lemmas.Bool.{le-ltb, lt-ltb}
-use Rattle.std.proofs.lemmas.List.{append-nil, length-take, length-take-le, take-take, take_all}
+use Rattle.std.proofs.lemmas.List.{append-nil, length-take-le, take_all}
 use Rattle.std.proofs.lemmas.List.Edits.{length-paste, take-paste}
-use Rattle.std.proofs.Math.Seq.{paste, take-append-add}
+use Rattle.std.proofs.Math.Seq.{paste}
 use Rattle.bs_json.specs.Text.{Text, blank, put, put_byte}
 
 pub put_none : (text : Text) → put text [] ≡ text
@@ -46,38 +46,6 @@ put_over room written piece len missing text is over fits =
     let same : length written ≡ length room = ap length over ∙ length-paste room len piece (length piece) fits (omega arith) in
     let text_is = put_whole (record { bytes = take len room; missing = missing; room = length room }) piece (omega (arith, long, fits)) in
     ap₂ (λ (b : List ℕ) (r : ℕ). record { bytes = b; missing = missing; room = r }) front same ∙ sym text_is ∙ ap (λ t. put t piece) is
-
--- the first bytes of a piece that was written whole behind the stored bytes
-take_first : (room piece : List ℕ) (len count n : ℕ) → len ≤ length room → count ≤ n → n ≤ length piece
-    → take (len + count) (paste room len piece n) ≡ take len room ++ take count piece
-take_first room piece len count n inside within long =
-    let front : length (take len room) ≡ len = length-take-le len room inside in
-    sym (take-take (len + count) (len + n) (paste room len piece n) (omega (arith, within)))
-    ∙ ap (take (len + count)) (take-paste room len piece n inside long)
-    ∙ ap (λ (k : ℕ). take (k + count) (take len room ++ take n piece)) (sym front)
-    ∙ take-append-add (take len room) (take n piece) count
-    ∙ ap (λ (l : List ℕ). take len room ++ l) (take-take count n piece within)
-
-pub put_first : (room written piece : List ℕ) (len missing count n : ℕ) (text : Text) → record { bytes = take len room; missing = missing; room = length room } ≡ text
-    → written ≡ paste room len piece n → n ≡ length piece → count ≤ n → len + n ≤ length room
-    → record { bytes = take (len + count) written; missing = missing; room = length written } ≡ put text (take count piece)
-put_first room written piece len missing count n text is over whole within fits =
-    let long : length (take len room) ≡ len = length-take-le len room (omega arith) in
-    let short : length (take count piece) ≡ count = length-take-le count piece (omega (arith, whole, within)) in
-    let front : take (len + count) written ≡ take len room ++ take count piece =
-    ap (take (len + count)) over ∙ take_first room piece len count n (omega arith) within (omega (arith, whole)) in
-    let same : length written ≡ length room = ap length over ∙ length-paste room len piece n fits (omega (arith, whole)) in
-    let text_is = put_whole (record { bytes = take len room; missing = missing; room = length room }) (take count piece) (omega (arith, long, short, within, fits)) in
-    ap₂ (λ (b : List ℕ) (r : ℕ). record { bytes = b; missing = missing; room = r }) front same ∙ sym text_is ∙ ap (λ t. put t (take count piece)) is
-
--- the room behind the first bytes of a piece
-pub room_behind : (t0 t1 : Text) (piece : List ℕ) (count n more : ℕ) → t1 ≡ put t0 (take count piece) → count ≤ n → length t0.bytes + (n + more) ≤ t0.room → length t1.bytes + more ≤ t1.room
-room_behind t0 t1 piece count n more is within fits =
-    let short : length (take count piece) ≤ count = (let e = length-take count piece in omega (arith, e)) in
-    let whole = is ∙ put_whole t0 (take count piece) (omega (arith, short, within, fits)) in
-    let longer = ap (λ (t : Text). length t.bytes) whole ∙ length-append t0.bytes (take count piece) in
-    let room = ap (λ (t : Text). t.room) whole in
-    omega (arith, short, within, fits, longer, room)
 
 -- a piece for which there is no room at all
 pub put_full : (text : Text) (piece : List ℕ) → text.room ≤ length text.bytes → text.missing < 2 ^ 64

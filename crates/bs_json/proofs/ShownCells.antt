@@ -2,7 +2,7 @@
 use Rattle.std.proofs.Common.{◌≡◌, ℕ, suc, ◌/◌, ◌%◌, ◌+◌, ◌-◌, ◌<◌, ◌≤◌, Bool, true, false, List, [], ◌∷◌, ◌++◌, codes, ℤ, pos, negsuc, nat_abs, ◌+ℤ◌, ◌-ℤ◌, ◌≤ℤ◌, All, length, get_or, take, drop, refl, sym, ap, ap₂, ◌∙◌, arith}
 use Rattle.std.specs.Prelude.{decimal, flat_map, map}
 use Rattle.std.specs.List.{AllByRecursion}
-use Rattle.std.proofs.lemmas.Fmt.{decimal_digit}
+use Rattle.std.proofs.lemmas.Fmt.{decimal_digit, decimal_step}
 use Rattle.std.proofs.lemmas.Int.{ints}
 use Rattle.std.proofs.lemmas.List.{take_rest}
 use Rattle.std.proofs.lemmas.List.Elements.{recursion_from_All}
@@ -26,6 +26,9 @@ one_digit number few = sym (decimal_digit number few)
 
 pub two_digits : (number : ℕ) → 10 ≤ number → number < 100 → (48 + number / 10) ∷ (48 + number % 10) ∷ [] ≡ decimal number
 two_digits number many few = sym (decimal_two number many few)
+
+pub hundred : 49 ∷ 48 ∷ 48 ∷ [] ≡ decimal 100
+hundred = ap (λ (t : List ℕ). t ++ 48 ∷ []) (two_digits 10 (omega arith) (omega arith)) ∙ sym (decimal_step 100 (omega arith) (omega arith))
 
 -- ---- cells
 
@@ -60,16 +63,6 @@ pub cell_pieces : (t0 t1 t2 : Text) (lead raised x y : ℕ) → t1 ≡ put t0 (l
 unfolding escape_byte
 cell_pieces t0 t1 t2 lead raised x y one two = next _ _ _ _ _ one two
 
--- a cell of a board, from the texts of its column and its row
-pub near_cell : (t0 t1 t2 : Text) (column row : List ℕ) (lead raised x y wide high : ℕ) → raised ≤ x → raised ≤ y
-    → take (6 + length (decimal (x - raised))) column ≡ lead ∷ (codes "{\"x\":" ++ decimal (x - raised)) → take (6 + length (decimal (y - raised))) row ≡ codes ",\"y\":" ++ (decimal (y - raised) ++ codes "}")
-    → wide ≡ 6 + length (decimal (x - raised)) → high ≡ 6 + length (decimal (y - raised)) → t1 ≡ put t0 (take wide column) → t2 ≡ put t1 (take high row)
-    → t2 ≡ put t0 (lead ∷ compact_text (cell_data (cell_of raised x y)))
-near_cell t0 t1 t2 column row lead raised x y wide high inside_x inside_y column_is row_is wide_is high_is one two =
-    cell_pieces t0 t1 t2 lead raised x y
-    (one ∙ ap (put t0) (ap (λ (k : ℕ). take k column) wide_is ∙ column_is ∙ ap (λ digits. lead ∷ (codes "{\"x\":" ++ digits)) (sym (coordinate_inside raised x inside_x))))
-    (two ∙ ap (put t1) (ap (λ (k : ℕ). take k row) high_is ∙ row_is ∙ ap (λ digits. codes ",\"y\":" ++ (digits ++ codes "}")) (sym (coordinate_inside raised y inside_y))))
-
 -- ---- cells and their bytes
 
 not_negative : (z : ℤ) → pos 0 ≤ℤ z → pos (nat_abs z) ≡ z
@@ -88,7 +81,7 @@ pub cells_again : (raised : ℕ) (cells : List Point) (bytes : List ℕ) → All
 cells_again raised cells bytes fits is = ap (cells_of raised) is ∙ cells_back raised cells (recursion_from_All (IsByteCell raised) cells fits)
 
 -- one item of those that are left
-rest_of_item : (later : Bool) (d : Data) (ds : Items) → list_rest later (item d ds) ≡ (byte_before later ∷ compact_text d) ++ items_text true ds
+pub rest_of_item : (later : Bool) (d : Data) (ds : Items) → list_rest later (item d ds) ≡ (byte_before later ∷ compact_text d) ++ items_text true ds
 rest_of_item true d ds = refl
 rest_of_item false d ds = refl
 

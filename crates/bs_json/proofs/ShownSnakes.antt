@@ -17,9 +17,9 @@ use Rattle.bs_board.specs.records.Record.{cell_bytes, snake_record}
 use Rattle.bs_board.specs.records.Writing.{IsWritable}
 use Rattle.bs_board.specs.inner.Writing.{AreWritableHazards, IsWritableBoard}
 use Rattle.bs_json.specs.Boards.{board_data, cells_data, killer_data, mode_text, snake_data, snakes_data}
-use Rattle.bs_json.specs.inner.BoardText.{back_pieces, board_of, cells_of as shown_cells, front_pieces, hazard_pieces, hazards_of, snake_of, snake_pieces}
+use Rattle.bs_json.specs.inner.BoardText.{back_pieces, board_of, cells_of as shown_cells, front_pieces, hazards_of, snake_of, snake_pieces}
 use Rattle.bs_json.specs.Text.{Text, put}
-use Rattle.bs_json.proofs.Puts.{next, put_put}
+use Rattle.bs_json.proofs.Puts.{put_put}
 use Rattle.bs_json.proofs.ShownCells.{cells_again}
 
 -- ---- the snakes and the board in the bytes of a record
@@ -53,19 +53,11 @@ snake_text snakes s parts by fits is by_is =
     ap (λ d. snake_pieces d (snake_of parts)) by_is ∙ ap (λ (t : Snake). snake_pieces (killer_data snakes t.killer) t) same ∙ snake_is snakes s
 
 -- the members of a snake that is not eliminated, of which three have no value
-living_text : (snake : SnakeBytes) → snake.cause ≡ None → snake.out ≡ None
+pub living_text : (snake : SnakeBytes) → snake.cause ≡ None → snake.out ≡ None
     → codes "{\"body\":" ++ (compact_text (cells_data (shown_cells 1 snake.body.now)) ++ (codes ",\"by\":null,\"cause\":null,\"health\":" ++ (decimal snake.health
     ++ (codes ",\"id\":\"" ++ (escape snake.id.now ++ codes "\",\"out\":null}"))))) ≡ snake_pieces null (snake_of snake)
 unfolding escape_byte
 living_text snake no_cause not_out = rw (no_cause, not_out, append_assoc (escape snake.id.now) (34 ∷ []) (codes ",\"out\":null}")) refl
-
--- what was pushed, step by step
-pub living_pieces : (t0 t1 t2 t3 t4 t5 t6 t7 : Text) (snake : SnakeBytes) → snake.cause ≡ None → snake.out ≡ None → t1 ≡ put t0 (codes "{\"body\":")
-    → t2 ≡ put t1 (compact_text (cells_data (shown_cells 1 snake.body.now))) → t3 ≡ put t2 (codes ",\"by\":null,\"cause\":null,\"health\":") → t4 ≡ put t3 (decimal snake.health)
-    → t5 ≡ put t4 (codes ",\"id\":\"") → t6 ≡ put t5 (escape snake.id.now) → t7 ≡ put t6 (codes "\",\"out\":null}") → t7 ≡ put t0 (snake_pieces null (snake_of snake))
-living_pieces t0 t1 t2 t3 t4 t5 t6 t7 snake no_cause not_out one two three four five six seven =
-    next _ _ _ _ _ one (next _ _ _ _ _ two (next _ _ _ _ _ three (next _ _ _ _ _ four (next _ _ _ _ _ five (next _ _ _ _ _ six seven)))))
-    ∙ ap (put t0) (living_text snake no_cause not_out)
 
 -- ---- all snakes
 

@@ -6,3 +6,4 @@ pub mod Minified
 pub mod Names
 pub mod Replies
 pub mod Sorted
+pub mod Writing

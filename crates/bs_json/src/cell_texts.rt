@@ -1,5 +1,6 @@
 //! The texts of the columns and rows of a board, from which those of cells are put together.
 ghost use Rattle.std.specs.Prelude.{◌≡◌, ◌++◌, ◌∷◌, ◌<◌, ◌≤◌, ◌+◌, codes, decimal, length, take};
+ghost use Rattle.bs_json.specs.inner.BoardText.{byte_before};
 
 /// The columns and rows that have a text here: those of the largest board.
 pub(crate) const SIDE: u8 = 25;
@@ -93,4 +94,12 @@ pub(crate) fn row_text(row: u8) -> [u8; 8]
     ensures { take (6 + length (decimal row)) result ≡ codes ",\"y\":" ++ (decimal row ++ codes "}") }
 {
     ROWS[usize::from(row)]
+}
+
+/// The byte before a cell of a list: a comma, or the bracket that opens the list.
+#[inline(always)]
+pub(crate) fn byte_before(later: bool) -> u8
+    ensures { result ≡ byte_before later }
+{
+    if later { b',' } else { b'[' }
 }

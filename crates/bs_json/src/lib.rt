@@ -23,6 +23,7 @@ pub mod short;
 mod shown_bytes;
 mod text_buffer;
 mod values;
+mod written;
 
 pub use boards::board_value;
 pub use limits::{MAX_LINE, MOST_WORD, USUAL_CHANCE, USUAL_MIN_FOOD};

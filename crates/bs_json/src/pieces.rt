@@ -89,8 +89,9 @@ fn push_escape(byte: u8, text: &mut TextBuffer)
     }
 }
 
+/// Whether all bytes of a string stand for themselves in JSON.
 #[inline(always)]
-fn are_plain(text: &[u8]) -> bool
+pub(crate) fn are_plain(text: &[u8]) -> bool
     ensures { result ≡ are_plain text.now }
 {
     text.iter().all(|byte| is_plain(*byte))

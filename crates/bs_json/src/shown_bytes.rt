@@ -1,6 +1,6 @@
 //! Appends the JSON text of a board directly from the bytes of its record: no board is decoded, and
 //! no JSON value is made.
-ghost use Rattle.std.specs.Prelude.{◌≡◌, ◌++◌, ◌+◌, ◌∷◌, ◌≤◌, ◌<◌, ◌-◌, ◌-ℤ◌, All, List, [], None, Some, codes, decimal, flat_map, length, option_copied, option_map, pos, slice_get};
+ghost use Rattle.std.specs.Prelude.{◌≡◌, ◌++◌, ◌∷◌, ◌-ℤ◌, All, List, [], None, Some, codes, decimal, flat_map, length, option_copied, option_map, pos, slice_get};
 ghost use Rattle.serde_json.specs.Data.{boolean, no_items, null, string};
 ghost use Rattle.serde_json.specs.Written.{comma_if, compact_text};
 ghost use Rattle.bs_board.specs.declared.boards.board.Board.{Board as AnyBoard};
@@ -10,11 +10,11 @@ ghost use Rattle.bs_board.specs.records.Record.{snake_record};
 ghost use Rattle.bs_board.specs.records.Writing.{IsWritable};
 ghost use Rattle.bs_board.specs.inner.Writing.{IsWritableBoard};
 ghost use Rattle.bs_json.specs.Boards.{board_data, cause_data, cell_data, cells_data, killer_data, mode_text, out_data, snake_data, snakes_data};
-ghost use Rattle.bs_json.specs.inner.BoardText.{back_pieces, board_of, byte_before, cell_of, cells_of, coordinate_text, front_pieces, hazard_pieces, hazards_of, list_rest, snake_of, snake_pieces, text_data};
+ghost use Rattle.bs_json.specs.inner.BoardText.{back_pieces, board_of, cell_of, cells_of, coordinate_text, front_pieces, hazard_pieces, hazards_of, list_rest, snake_of, snake_pieces, text_data};
 ghost use Rattle.bs_json.specs.Text.{put};
 
 use crate::boards::{cause_text, mode_text};
-use crate::cell_texts::{SIDE, column_text, row_text, text_len};
+use crate::cell_texts::byte_before;
 use crate::pieces::{push_bytes, push_small, push_string, push_string_or_null, push_turn};
 use crate::text_buffer::TextBuffer;
 use bs_board::{BoardBytes, Cause, KeptBoard, Mode, SnakeBytes, skip_snakes, split_snake};
@@ -54,52 +54,14 @@ fn push_row(raised: u8, y: u8, text: &mut TextBuffer)
     text.push(b"}");
 }
 
-/// Appends any cell: one beside the board, or one for which there may be no room.
+/// Appends the cell of these two bytes, which the record stores with `raised` added, behind the
+/// byte `lead`.
 #[tactic(auto, using(crate::proofs::ShownCells::cell_pieces))]
-#[inline(never)]
-fn push_any_cell(lead: u8, raised: u8, x: u8, y: u8, text: &mut TextBuffer)
+fn push_cell(lead: u8, raised: u8, x: u8, y: u8, text: &mut TextBuffer)
     ensures { text.new ≡ put text.old (lead ∷ compact_text (cell_data (cell_of raised x y))) }
 {
     push_column(lead, raised, x, text);
     push_row(raised, y, text);
-}
-
-/// Appends a cell of a board from the texts of its column and its row, each a piece of eight bytes
-/// for which there is room.
-#[inline(always)]
-fn push_near_cell(lead: u8, raised: u8, x: u8, y: u8, text: &mut TextBuffer)
-    requires left { raised ≤ x }
-    requires below { raised ≤ y }
-    requires column { x - raised < 25 }
-    requires row { y - raised < 25 }
-    requires room { length text.old.bytes + 16 ≤ text.old.room }
-    ensures { text.new ≡ put text.old (lead ∷ compact_text (cell_data (cell_of raised x y))) }
-{
-    let column = x - raised;
-    let row = y - raised;
-    text.store_first(&column_text(lead, column), text_len(column));
-    text.store_first(&row_text(row), text_len(row));
-}
-
-/// Appends the cell of these two bytes, which the record stores with `raised` added, behind the
-/// byte `lead`.
-#[inline(always)]
-fn push_cell(lead: u8, raised: u8, x: u8, y: u8, text: &mut TextBuffer)
-    ensures { text.new ≡ put text.old (lead ∷ compact_text (cell_data (cell_of raised x y))) }
-{
-    if raised <= x && raised <= y && x - raised < SIDE && y - raised < SIDE && 16 <= text.left() {
-        push_near_cell(lead, raised, x, y, text);
-    } else {
-        push_any_cell(lead, raised, x, y, text);
-    }
-}
-
-/// The byte before a cell of a list: a comma, or the bracket that opens the list.
-#[inline(always)]
-fn byte_before(later: bool) -> u8
-    ensures { result ≡ byte_before later }
-{
-    if later { b',' } else { b'[' }
 }
 
 /// Appends the end of a list of cells; both brackets if the list is empty.
@@ -114,9 +76,9 @@ fn push_end(later: bool, text: &mut TextBuffer)
     }
 }
 
-/// Appends a list of cells from their bytes, two for each cell.
-#[inline(always)]
-fn push_cells(raised: u8, cells: &[u8], text: &mut TextBuffer)
+/// Appends a list of any cells, also of those beside the board, where there may be no room.
+#[inline(never)]
+fn push_any_cells(raised: u8, cells: &[u8], text: &mut TextBuffer)
     ensures { text.new ≡ put text.old (compact_text (cells_data (cells_of raised cells.now))) }
 {
     let mut left = cells;
@@ -127,6 +89,16 @@ fn push_cells(raised: u8, cells: &[u8], text: &mut TextBuffer)
         later = true;
     }
     push_end(later, text);
+}
+
+/// Appends a list of cells from their bytes, two for each cell.
+#[inline(always)]
+fn push_cells(raised: u8, cells: &[u8], text: &mut TextBuffer)
+    ensures { text.new ≡ put text.old (compact_text (cells_data (cells_of raised cells.now))) }
+{
+    if !text.store_cells(raised, cells) {
+        push_any_cells(raised, cells, text);
+    }
 }
 
 /// Appends the cause of a snake's elimination, or `null`.
@@ -149,22 +121,6 @@ fn push_out(out: Option<u16>, text: &mut TextBuffer)
         Some(turn) => push_turn(turn, text),
         None => text.push(b"null"),
     }
-}
-
-/// Appends a snake that is not eliminated, whose members without a value join the text around them.
-#[inline(always)]
-fn push_living(snake: &SnakeBytes<'_>, text: &mut TextBuffer)
-    requires cause { snake.now.cause ≡ None }
-    requires out { snake.now.out ≡ None }
-    ensures { text.new ≡ put text.old (snake_pieces null (snake_of snake.now)) }
-{
-    text.push(b"{\"body\":");
-    push_cells(1, snake.body, text);
-    text.push(b",\"by\":null,\"cause\":null,\"health\":");
-    push_small(snake.health, text);
-    text.push(b",\"id\":\"");
-    push_bytes(snake.id, text);
-    text.push(b"\",\"out\":null}");
 }
 
 /// Appends a snake with its killer's id, member by member.
@@ -191,9 +147,8 @@ fn push_members(killer: Option<&[u8]>, snake: &SnakeBytes<'_>, text: &mut TextBu
 fn push_parts(killer: Option<&[u8]>, snake: &SnakeBytes<'_>, text: &mut TextBuffer)
     ensures { text.new ≡ put text.old (snake_pieces (text_data (option_copied killer.entry)) (snake_of snake.now)) }
 {
-    match (killer, snake.cause, snake.out) {
-        (None, None, None) => push_living(snake, text),
-        _ => push_members(killer, snake, text),
+    if killer.is_some() || !text.store_living(snake) {
+        push_members(killer, snake, text);
     }
 }
 

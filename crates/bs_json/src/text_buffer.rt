@@ -1,7 +1,13 @@
 //! A text buffer of fixed capacity, which is allocated once.
-ghost use Rattle.std.specs.Prelude.{◌≡◌, ◌+◌, ◌<◌, ◌≤◌, ◌^◌, length, take, IfOk};
+ghost use Rattle.std.specs.Prelude.{◌≡◌, ◌+◌, ◌<◌, ◌≤◌, ◌^◌, if◌then◌else◌, length, IfOk};
+ghost use Rattle.serde_json.specs.Data.{null};
+ghost use Rattle.serde_json.specs.Written.{compact_text};
+ghost use Rattle.bs_json.specs.Boards.{cells_data};
+ghost use Rattle.bs_json.specs.inner.BoardText.{cells_of, snake_of, snake_pieces};
 ghost use Rattle.bs_json.specs.Text.{blank, put};
 
+use crate::written::{write_list, write_living};
+use bs_board::SnakeBytes;
 use std::alloc::{AllocError, Global};
 use std::marker::Model;
 
@@ -117,16 +123,32 @@ impl TextBuffer {
         self.missing = self.missing.saturating_add(rest.len());
     }
 
-    /// Appends the first `count` bytes of a piece of eight, where there is room for all eight.
+    /// Appends a list of cells of a board, if there is plenty of room; else changes nothing.
     #[inline(always)]
-    pub(crate) fn store_first(&mut self, piece: &[u8; 8], count: usize)
-        requires room { length self.old.bytes + 8 ≤ self.old.room }
-        requires within { count ≤ 8 }
-        ensures { self.new ≡ put self.old (take count piece.now) }
+    pub(crate) fn store_cells(&mut self, raised: u8, cells: &[u8]) -> bool
+        ensures { self.new ≡ (if result then put self.old (compact_text (cells_data (cells_of raised cells.now))) else self.old) }
     {
-        let end = self.len + 8;
-        self.bytes[self.len..end].copy_from_slice(piece);
-        self.len += count;
+        match write_list(raised, cells, &mut self.bytes, self.len) {
+            Some(end) => {
+                self.len = end;
+                true
+            }
+            None => false,
+        }
+    }
+
+    /// Appends a snake that is not eliminated, if there is plenty of room; else changes nothing.
+    #[inline(always)]
+    pub(crate) fn store_living(&mut self, snake: &SnakeBytes<'_>) -> bool
+        ensures { self.new ≡ (if result then put self.old (snake_pieces null (snake_of snake.now)) else self.old) }
+    {
+        match write_living(snake, &mut self.bytes, self.len) {
+            Some(end) => {
+                self.len = end;
+                true
+            }
+            None => false,
+        }
     }
 
     /// Appends a piece; counts the bytes for which there is no room. Allocates nothing.

@@ -4,7 +4,7 @@ use Rattle.serde_json.specs.Written.{compact_text}
 use Rattle.bs_json.specs.Boards.{cell_data, cells_data}
 use Rattle.bs_json.specs.inner.BoardText.{cells_of, list_rest}
 use Rattle.bs_json.specs.Text.{put}
-use Rattle.bs_json.proofs.shown_bytes.push_cells.Given as goal
+use Rattle.bs_json.proofs.shown_bytes.push_any_cells.Given as goal
 
 -- the text so far, and that of the remaining cells
 abbrev pub invariant-loop-left : goal.invariant-loop-left
