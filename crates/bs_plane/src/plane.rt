@@ -107,8 +107,7 @@ impl Plane {
         match self.place(cell) {
             None => false,
             Some(place) => {
-                let there = self.cells[place];
-                self.cells[place] = Cell { food, ..there };
+                self.cells[place].food = food;
                 true
             }
         }
@@ -121,11 +120,7 @@ impl Plane {
         match self.place(cell) {
             None => false,
             Some(place) => {
-                let there = self.cells[place];
-                self.cells[place] = Cell {
-                    hazard: true,
-                    ..there
-                };
+                self.cells[place].hazard = true;
                 true
             }
         }
