@@ -11,7 +11,7 @@ use Rattle.bs_board.specs.declared.boards.point.Point.{Point}
 use Rattle.bs_json.specs.inner.Maps.{cells_text, is_near_cell, place_text}
 use Rattle.bs_board.specs.declared.commands.command.Command.{Command}
 use Rattle.bs_board.specs.declared.plans.version.Version.{Version}
-use Rattle.bs_json.specs.inner.Compact.{IsCompact, IsOrderText, is_plain, are_plain, are_plain_moves, direction_name, move_text, moves_text, order_text, words_text}
+use Rattle.bs_json.specs.inner.Compact.{IsCompact, IsOrderText, is_plain, are_plain, are_plain_moves, are_some, direction_name, move_text, moves_text, order_text, words_text}
 
 pub behind_prefix : (line text rest : List ℕ) → bytes_eq (take (length text) line) text ≡ true → rest ≡ drop (length text) line → line ≡ text ++ rest
 behind_prefix line text rest same is =
@@ -41,11 +41,6 @@ plain_front line end is = subst (λ n. are_plain (take n line) ≡ true) (place_
 pub move_parts : (line first id second rest : List ℕ) (d : Direction) → line ≡ 34 ∷ first → first ≡ id ++ 34 ∷ second → second ≡ 58 ∷ 34 ∷ (direction_name d ++ 34 ∷ rest)
     → line ≡ move_text (id, d) ++ rest
 move_parts line first id second rest d opens closes next = rw (opens, closes, next) (simp append_assoc)
-
--- whether there are any
-abbrev pub are_some : {A : Type 0} → List A → Bool
-are_some [] = false
-are_some (_ ∷ _) = true
 
 longer : (later : Bool) (first : List ℕ × Direction) (xs ys front back : List ℕ) → xs ++ front ≡ ys ++ back
     → (comma_if later ++ (move_text first ++ xs)) ++ front ≡ (comma_if later ++ (move_text first ++ ys)) ++ back

@@ -6,13 +6,13 @@ use Rattle.std.specs.Str.{is_utf8}
 use Rattle.std.specs.declared.cmp.Ordering.{Ordering}
 use Rattle.serde_json.specs.Written.{comma_if}
 use Rattle.bs_board.specs.declared.boards.point.Direction.{Direction}
-use Rattle.bs_board.specs.commands.Orders.{is_ascending}
+use Rattle.bs_board.specs.commands.Orders.{is_ascending, moves_in}
 use Rattle.bs_board.proofs.Chains.{and_both}
-use Rattle.bs_json.specs.inner.Compact.{GivenMoves, are_plain, are_plain_moves, move_text}
-use Rattle.bs_json.specs.inner.Sorted.{moves_in, put_move, put_moves}
+use Rattle.bs_json.specs.inner.Compact.{GivenMoves, ReadMoves, are_plain, are_plain_moves, move_text}
+use Rattle.bs_json.specs.inner.Sorted.{put_move, put_moves}
 use Rattle.bs_json.proofs.Ascending.{Given}
 use Rattle.bs_json.proofs.CompactBytes.{plain_text}
-use Rattle.bs_json.proofs.CutTexts.{are_some, one_move_more, plain_with_one, some_with_one}
+use Rattle.bs_json.proofs.CutTexts.{one_move_more, plain_with_one, some_with_one}
 use Rattle.bs_json.proofs.OrderedMoves.{Entries, in_order_ascends}
 
 pub plain_at : (entries : Entries) (at : ℕ) (none : Bor (List ℕ) × Direction) → are_plain_moves (moves_in (drop at entries)) ≡ true → at < length entries
@@ -21,10 +21,6 @@ plain_at entries at none plain within =
     let here : drop at entries ≡ get_or entries at none ∷ drop (suc at) entries = drop-cons entries at none within in
     let all : are_plain_moves (moves_in (get_or entries at none ∷ drop (suc at) entries)) ≡ true = ap (λ es. are_plain_moves (moves_in es)) (sym here) ∙ plain in
     plain_text (get_or entries at none).0.now (and_both (are_plain (get_or entries at none).0.now) (are_plain_moves (moves_in (drop (suc at) entries))) all).0
-
--- what was read so far, and whether that is anything
-abbrev pub ReadMoves : List ℕ → Given → List ℕ → Bool → Type 0
-ReadMoves line moves left later = (g : GivenMoves line moves left) × (later ≡ are_some g.given)
 
 put_after : (found given : Given) (move : List ℕ × Direction) → put_moves found (given ++ move ∷ []) ≡ put_move (put_moves found given) move
 put_after found [] move = refl

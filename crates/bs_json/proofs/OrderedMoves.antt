@@ -7,10 +7,11 @@ use Rattle.std.specs.Cmp.Lexicographic.{slice_cmp}
 use Rattle.std.specs.Ordering.{is_gt, is_lt, match_ordering, nat_cmp, ordering_reverse}
 use Rattle.std.specs.declared.cmp.Ordering.{Ordering}
 use Rattle.bs_board.specs.declared.boards.point.Direction.{Direction}
-use Rattle.bs_board.specs.commands.Orders.{is_ascending}
+use Rattle.bs_board.specs.commands.Orders.{is_ascending, moves_in}
 use Rattle.bs_board.specs.Texts.{is_text_below}
 use Rattle.bs_board.proofs.Chains.{and_both}
-use Rattle.bs_json.specs.inner.Sorted.{in_order, is_last, moves_in, put_move, put_moves}
+use Rattle.bs_board.proofs.commands.PackedMoves.{one_lent}
+use Rattle.bs_json.specs.inner.Sorted.{in_order, is_last, put_move, put_moves}
 use Rattle.bs_json.proofs.Ascending.{FirstIsAbove, Given, ascends_after}
 
 abbrev pub Entries : Type 0
@@ -88,14 +89,19 @@ append_ascends (first ∷ second ∷ rest) move up last =
     let parts = and_both (is_text_below first.0 second.0) (is_ascending (second ∷ rest)) up in
     and_from (is_text_below first.0 second.0) (is_ascending ((second ∷ rest) ++ move ∷ [])) parts.0 (append_ascends (second ∷ rest) move parts.1 last)
 
-moves_before : (entries : Entries) (id : Bor (List ℕ)) (direction : Direction) → moves_in (entries ++ (id, direction) ∷ []) ≡ moves_in entries ++ (id.now, direction) ∷ []
-moves_before [] id direction = refl
-moves_before (entry ∷ entries) id direction = rw (moves_before entries id direction) refl
+pub last_is_put : (moves : Given) (move : List ℕ × Direction) → is_ascending moves ≡ true → is_last move.0 moves ≡ true → moves ++ move ∷ [] ≡ put_move moves move
+last_is_put moves move up last = sym (goes_last moves move [] (append_ascends moves move up last))
+
+-- an id above the one that came last is above all
+pub above_all : (moves : Given) (move : List ℕ × Direction) (id : List ℕ) → is_text_below move.0 id ≡ true → is_last id (moves ++ move ∷ []) ≡ true
+above_all [] move id above = above
+above_all (first ∷ []) move id above = above
+above_all (first ∷ second ∷ rest) move id above = above_all (second ∷ rest) move id above
 
 pub put_last : (entries : Entries) (id : Bor (List ℕ)) (direction : Direction) → is_ascending (moves_in entries) ≡ true → is_last id.now (moves_in entries) ≡ true
     → moves_in (entries ++ (id, direction) ∷ []) ≡ put_move (moves_in entries) (id.now, direction)
 put_last entries id direction up last =
-    moves_before entries id direction ∙ sym (goes_last (moves_in entries) (id.now, direction) [] (append_ascends (moves_in entries) (id.now, direction) up last))
+    one_lent entries (id, direction) ∙ last_is_put (moves_in entries) (id.now, direction) up last
 
 pub last_below : (entries : Entries) (id : List ℕ) (none : Bor (List ℕ) × Direction) → 0 < length entries
     → is_lt (slice_cmp nat_cmp (get_or entries (length entries - 1) none).0.now id) ≡ true → is_last id (moves_in entries) ≡ true

@@ -3,8 +3,8 @@
 ghost use Rattle.std.specs.Prelude.{◌≡◌, ◌≤◌, [], ◌∷◌, ◌++◌, codes, decimal, length, false, true, not, IfOk, IfSome};
 ghost use Rattle.std.specs.List.{position};
 ghost use Rattle.serde_json.specs.Written.{comma_if};
-ghost use Rattle.bs_board.specs.commands.Orders.{AreFitWords, is_ascending, orders_of};
-ghost use Rattle.bs_json.specs.inner.Compact.{is_plain, are_plain, direction_name, move_text, words_text, tail_text, GivenMoves, IsFitTail, IsMoveText, IsOrderText};
+ghost use Rattle.bs_board.specs.commands.Orders.{AreFitWords, is_ascending, moves_in, orders_of};
+ghost use Rattle.bs_json.specs.inner.Compact.{is_plain, are_plain, direction_name, move_text, words_text, tail_text, GivenMoves, ReadMoves, IsFitTail, IsMoveText, IsOrderText};
 ghost use Rattle.bs_json.specs.Line.{line_of};
 ghost use Rattle.bs_json.specs.declared.limits.TheConstants.{MAX_LINE};
 
@@ -12,15 +12,12 @@ use crate::line::Line;
 use crate::maps::parse_map;
 use crate::name::Name;
 use crate::numbers::split_number;
-use crate::ordered_moves::{packed, put};
+use crate::ordered_moves::{insert, is_above, packed, put};
 use crate::short::parse_short_order;
 use bs_board::limits::MOST_WORDS;
 use bs_board::{Cells, Command, Direction, Id, Move, Moves, Version, Words};
 use std::alloc::{AllocError, Global};
 use std::str;
-
-/// The number of moves that a line usually has at most.
-const USUAL_MOVES: usize = 8;
 
 /// Whether the byte is printable ASCII and needs no escape in a string.
 pub(crate) fn is_plain(byte: u8) -> bool
@@ -105,26 +102,59 @@ fn split_next_move<'l>(line: &'l [u8], later: bool) -> Option<(&'l [u8], Directi
     }
 }
 
+/// Parses the moves that are left, up to the closing brace, after those of these entries. Returns
+/// all in the order of their ids, each id once, with the direction that it has last.
+#[tactic(auto, using(crate::proofs::GivenMoves::one_more, crate::proofs::GivenMoves::are_plain_in_order, crate::proofs::GivenMoves::ascend_in_order))]
+fn split_others<'e, 'l: 'e>(
+    alloc: Global,
+    line: &[u8],
+    before: Vec<(&'e [u8], Direction)>,
+    others: &'l [u8],
+) -> Result<Option<(Moves, &'l [u8])>, AllocError>
+    requires { ReadMoves line.now (moves_in before.items) others.now true }
+    ensures text { IfOk result (λ cut. IfSome cut (λ found. GivenMoves line.now found.0 (125 ∷ found.1.now))) }
+    ensures ascending { IfOk result (λ cut. IfSome cut (λ found. is_ascending found.0 ≡ true)) }
+{
+    let mut moves = before;
+    let mut left = others;
+    for _turn in 0..line.len() {
+        if let Some(rest) = strip_prefix(left, b"}") {
+            return Ok(Some((packed(alloc, moves.as_slice())?, rest)));
+        }
+        let Some((id, direction, rest)) = split_next_move(left, true) else {
+            return Ok(None);
+        };
+        put(&mut moves, id, direction)?;
+        left = rest;
+    }
+    Ok(None)
+}
+
 /// Parses all moves up to the closing brace. Returns them in the order of their ids, each id once,
-/// with the direction that it has last.
+/// with the direction that it has last. Moves whose ids ascend are packed as they come.
 #[tactic(auto, using(crate::proofs::GivenMoves::no_moves, crate::proofs::GivenMoves::one_more, crate::proofs::GivenMoves::are_plain_in_order, crate::proofs::GivenMoves::ascend_in_order))]
 fn split_moves<'l>(alloc: Global, line: &'l [u8]) -> Result<Option<(Moves, &'l [u8])>, AllocError>
     ensures text { IfOk result (λ cut. IfSome cut (λ found. GivenMoves line.now found.0 (125 ∷ found.1.now))) }
     ensures ascending { IfOk result (λ cut. IfSome cut (λ found. is_ascending found.0 ≡ true)) }
 {
-    let mut moves = Vec::with_capacity(alloc, USUAL_MOVES)?;
+    let mut moves = Moves::new(alloc);
+    let mut last = None;
     let mut left = line;
-    let mut later = false;
     for _turn in 0..line.len() {
         if let Some(rest) = strip_prefix(left, b"}") {
-            return Ok(Some((packed(alloc, moves.as_slice())?, rest)));
+            return Ok(Some((moves, rest)));
         }
-        let Some((id, direction, rest)) = split_next_move(left, later) else {
+        let Some((id, direction, rest)) = split_next_move(left, last.is_some()) else {
             return Ok(None);
         };
-        put(&mut moves, id, direction)?;
+        if !is_above(id, last) {
+            let mut entries = moves.entries(alloc)?;
+            insert(&mut entries, id, direction)?;
+            return split_others(alloc, line, entries, rest);
+        }
+        moves.push(id, direction)?;
+        last = Some(id);
         left = rest;
-        later = true;
     }
     Ok(None)
 }

@@ -3,9 +3,9 @@ ghost use Rattle.std.specs.Prelude.{◌≡◌, not, true, IfOk, IsTrue, OnOk};
 ghost use Rattle.std.specs.Cmp.Lexicographic.{slice_cmp};
 ghost use Rattle.std.specs.List.{position};
 ghost use Rattle.std.specs.Ordering.{is_gt, nat_cmp};
-ghost use Rattle.bs_board.specs.commands.Orders.{is_ascending};
+ghost use Rattle.bs_board.specs.commands.Orders.{is_ascending, moves_in};
 ghost use Rattle.bs_json.specs.inner.Compact.{are_plain_moves};
-ghost use Rattle.bs_json.specs.inner.Sorted.{is_last, moves_in, put_move};
+ghost use Rattle.bs_json.specs.inner.Sorted.{is_above, is_last, put_move};
 
 use bs_board::{Direction, Moves};
 use std::alloc::{AllocError, Global};
@@ -22,6 +22,17 @@ fn is_last(entries: &[(&[u8], Direction)], id: &[u8]) -> bool
     last.cmp(id).is_lt()
 }
 
+/// Whether the id is above the last one, if there is one.
+#[inline(always)]
+pub(crate) fn is_above(id: &[u8], last: Option<&[u8]>) -> bool
+    ensures { result ≡ is_above id.now last.entry }
+{
+    match last {
+        Some(last) => last.cmp(id).is_lt(),
+        None => true,
+    }
+}
+
 /// The index of the first entry whose id is not below the id.
 fn place_of(entries: &[(&[u8], Direction)], id: &[u8]) -> Option<usize>
     ensures { result ≡ position (λ entry. not (is_gt (slice_cmp nat_cmp id.now entry.0.now))) entries.now }
@@ -30,7 +41,7 @@ fn place_of(entries: &[(&[u8], Direction)], id: &[u8]) -> Option<usize>
 }
 
 /// Puts a move at its place; an id that is there takes its direction.
-fn insert<'l>(
+pub(crate) fn insert<'l>(
     entries: &mut Vec<(&'l [u8], Direction)>,
     id: &'l [u8],
     direction: Direction,

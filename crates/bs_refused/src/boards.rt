@@ -193,7 +193,7 @@ impl Question for CopyCommand {
     }
 }
 
-/// `Moves::to_vec`, and `Moves::push`, which makes the same list again.
+/// `Moves::to_vec` and `Moves::entries`, and `Moves::push`, which makes the same list again.
 pub struct PushMoves;
 
 impl Question for PushMoves {
@@ -204,7 +204,8 @@ impl Question for PushMoves {
     fn call(alloc: Global, on: &Move) -> Result<Moves, Fault> {
         let mut moves = Moves::new(alloc);
         let entries = on.moves.to_vec(alloc)?;
-        for (id, direction) in entries.as_slice() {
+        let count = on.moves.entries(alloc)?.len().min(entries.len());
+        for (id, direction) in &entries.as_slice()[..count] {
             moves.push(id.as_bytes(), *direction)?;
         }
         Ok(moves)

@@ -121,6 +121,18 @@ const LONG_NAMES: [&str; 10] = [
     "a snake with an id of 32 bytes 9",
 ];
 
+/// Checks that the lent entries are those that were copied out.
+fn check_lent(alloc: Global, moves: &Moves, copied: &[(Id, Direction)]) -> Result<(), Fail> {
+    let lent = moves.entries(alloc)?;
+    same("lent entries", lent.len(), copied.len())?;
+    for (place, (id, to)) in lent.as_slice().iter().enumerate() {
+        let (name, direction) = copied.get(place).ok_or("an entry")?;
+        same("a lent id", *id, name.as_bytes())?;
+        same("its direction", *to, *direction)?;
+    }
+    Ok(())
+}
+
 #[test]
 fn directions_of_long_ids_stay(rt: HostRuntime) -> Result<(), Fail> {
     let alloc = rt.alloc();
@@ -131,6 +143,7 @@ fn directions_of_long_ids_stay(rt: HostRuntime) -> Result<(), Fail> {
         holds("a copy", copy.is_same(&moves))?;
         let entries = copy.to_vec(alloc)?;
         same("entries", entries.len(), count + 3)?;
+        check_lent(alloc, &copy, entries.as_slice())?;
         check_direction(entries.as_slice(), 0, "a", Direction::Up)?;
         check_direction(entries.as_slice(), 1, "bc", Direction::Left)?;
         check_direction(entries.as_slice(), count + 2, id, Direction::Down)?;

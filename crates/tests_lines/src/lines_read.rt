@@ -48,6 +48,7 @@ a: move s Left|{"game":"a","do":"move","moves":{"\u0073":"left","t":"Up"}}
 a: move A Down a Right b Left t Up|{"game":"a","do":"move","moves":{"t":"up","a":"right","A":"down","b":"left"}}
 a: move  Up s Down s2 Left s20 Right|{"game":"a","do":"move","moves":{"s20":"right","s2":"left","s":"down","":"up"}}
 a: move s Down t Right u Left|{"game":"a","do":"move","moves":{"t":"up","s":"up","u":"left","t":"right","s":"down"}}
+a: move a Up b Left c Down|{"game":"a","do":"move","moves":{"a":"up","c":"up","b":"left","c":"down"}}
 a: move s Down 7 10|{"game":"a","do":"move","moves":{"s":"up","s":"down"},"words":[7,10]}
 a: move s Down|{"game":"a","do":"move","moves":{"t":"up","s":"down","t":"Up"}}
 a: move gs_WVH7vQX8 Up gs_mYk4Pphr Left gs_mYk4Pphx Right 3|{"game":"a","do":"move","moves":{"gs_mYk4Pphx":"right","gs_WVH7vQX8":"up","gs_mYk4Pphr":"left"},"words":[3]}

@@ -1,5 +1,5 @@
 -- What is packed is unpacked again.
-use Rattle.std.proofs.Common.{◌≡◌, ℕ, zero, suc, ◌+◌, ◌≤◌, List, [], ◌∷◌, ◌++◌, length, drop, true, false, Some, None, Result, Ok, Err, cond, refl, subst, sym, ap, ◌∙◌, append_assoc, arith, length-append}
+use Rattle.std.proofs.Common.{◌≡◌, ℕ, Bor, zero, suc, ◌+◌, ◌≤◌, List, [], ◌∷◌, ◌++◌, length, drop, true, false, Some, None, Result, Ok, Err, cond, refl, subst, sym, ap, ◌∙◌, append_assoc, arith, length-append}
 use Rattle.std.specs.Prelude.{is_ok, OnOk}
 use Rattle.std.specs.Str.{is_utf8}
 use Rattle.std.proofs.lemmas.Grind.{flat_map-append}
@@ -8,7 +8,7 @@ use Rattle.std.proofs.lemmas.List.Elements.{All-drop, All-head, All-nil, All-pus
 use Rattle.bs_board.specs.declared.boards.point.Direction.{Direction}
 use Rattle.bs_board.specs.declared.boards.point.Direction.TheVariants.{Up, Down, Left, Right}
 use Rattle.bs_board.specs.Texts.{IdsAreTexts, is_same_text, is_text_below}
-use Rattle.bs_board.specs.commands.Orders.{given_to, is_ascending}
+use Rattle.bs_board.specs.commands.Orders.{given_to, is_ascending, moves_in}
 use Rattle.bs_board.specs.inner.Packed.{ArePacked, direction_byte, direction_of, packed, packed_move, unpack, unpacked}
 use Rattle.bs_board.proofs.records.Fields.{number_again}
 
@@ -103,6 +103,11 @@ last_above before left all none same = ap (λ m. is_ascending ((before, Up) ∷ 
 pub one_out : (all left found next : List (List ℕ × Direction)) (move : List ℕ × Direction) → left ≡ move ∷ drop 1 left → found ++ left ≡ all → next ≡ found ++ move ∷ []
     → next ++ drop 1 left ≡ all
 one_out all left found next move is whole more = rw more (append_assoc found (move ∷ []) (drop 1 left) ∙ ap (λ m. found ++ m) (sym is) ∙ whole)
+
+pub one_lent : (entries : List (Bor (List ℕ) × Direction)) (entry : Bor (List ℕ) × Direction)
+    → moves_in (entries ++ entry ∷ []) ≡ moves_in entries ++ (entry.0.now, entry.1) ∷ []
+one_lent [] entry = refl
+one_lent (first ∷ entries) entry = rw (one_lent entries entry) refl
 
 pub text_here : (all : List (List ℕ × Direction)) (count : ℕ) (move : List ℕ × Direction) (later : List (List ℕ × Direction)) → IdsAreTexts all → drop count all ≡ move ∷ later
     → is_utf8 move.0 ≡ true

@@ -1,5 +1,6 @@
 -- The contents of a `move` command, and their limits.
 use Rattle.std.specs.Prelude.{◌≡◌, ℕ, ◌≤◌, ◌<◌, ◌^◌, Bool, true, ◌&&◌, List, [], ◌∷◌, length, All, Option, None, option_map, find}
+use Rattle.std.specs.Borrow.{Bor}
 use Rattle.bs_board.specs.declared.boards.point.Direction.{Direction}
 use Rattle.bs_board.specs.declared.boards.point.Point.{Point}
 use Rattle.bs_board.specs.declared.limits.TheConstants.{MOST_WORDS}
@@ -35,6 +36,11 @@ pub record IsFitOrders (orders : Orders) : Type 0 where
 -- the direction of the first entry with that id
 abbrev pub given_to : List (List ℕ × Direction) → List ℕ → Option Direction
 given_to moves id = option_map (λ m. m.1) (find (λ m. is_same_text m.0 id) moves)
+
+-- the moves that these entries are, whose ids are borrowed
+abbrev pub moves_in : List (Bor (List ℕ) × Direction) → List (List ℕ × Direction)
+moves_in [] = []
+moves_in (entry ∷ entries) = (entry.0.now, entry.1) ∷ moves_in entries
 
 -- each id is above the one before it
 abbrev pub is_ascending : List (List ℕ × Direction) → Bool

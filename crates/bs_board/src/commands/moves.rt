@@ -8,6 +8,9 @@ use std::alloc::{AllocError, Global};
 use std::marker::Model;
 use std::str;
 
+/// The number of entries that a list usually has at most.
+const USUAL: usize = 8;
+
 /// The directions given to snakes by their ids, in order. They are packed into one list of bytes,
 /// so that two lists are compared and copied as bytes. Up to 32 bytes lie in the value itself:
 /// those of two snakes with ids of up to 13 bytes, or of eight with ids of one.
@@ -32,7 +35,7 @@ impl Moves {
     ghost use Rattle.std.specs.Prelude.{◌≡◌, [], ◌∷◌, ◌++◌, ◌↔◌, true, IfOk, OnOk, IsTrue};
     ghost use Rattle.std.specs.Str.{is_utf8};
     ghost use Rattle.bs_board.specs.Texts.{IdsAreTexts};
-    ghost use Rattle.bs_board.specs.commands.Orders.{given_to, is_ascending};
+    ghost use Rattle.bs_board.specs.commands.Orders.{given_to, is_ascending, moves_in};
 
     /// Makes a list without entries.
     #[tactic(auto, using(crate::proofs::commands::PackedMoves::none_packed, crate::proofs::commands::PackedMoves::none_unpacked))]
@@ -121,6 +124,22 @@ impl Moves {
                 unreachable!()
             };
             entries.push((Id::from_str(alloc, id)?, direction))?;
+            left = rest;
+        }
+        Ok(entries)
+    }
+
+    /// Lends the entries, in order.
+    pub fn entries(&self, alloc: Global) -> Result<Vec<(&[u8], Direction)>, AllocError>
+        ensures { IfOk result (λ entries. moves_in entries.items ≡ self.now) }
+    {
+        let mut entries = Vec::with_capacity(alloc, USUAL)?;
+        let mut left = self.bytes.as_slice();
+        for _turn in 0..self.bytes.len() {
+            let Some((id, direction, rest)) = split_entry(left) else {
+                return Ok(entries);
+            };
+            entries.push((id, direction))?;
             left = rest;
         }
         Ok(entries)

@@ -73,6 +73,15 @@ pub record GivenMoves (line : List ℕ) (moves : List (List ℕ × Direction)) (
   pub plain : are_plain_moves given ≡ true
   pub order : moves ≡ in_order given
 
+-- whether there are any
+abbrev pub are_some : {A : Type 0} → List A → Bool
+are_some [] = false
+are_some (_ ∷ _) = true
+
+-- what was read so far, and whether that is anything
+abbrev pub ReadMoves : List ℕ → List (List ℕ × Direction) → List ℕ → Bool → Type 0
+ReadMoves line moves left later = (g : GivenMoves line moves left) × (later ≡ are_some g.given)
+
 -- words are left out if there are none, and written by a move that gives no hazards and no food
 abbrev pub IsFitTail : Version → Bool → Orders → Type 0
 IsFitTail version false orders = (orders.words ≡ []) × IsMap version orders.hazards orders.food

@@ -1,5 +1,5 @@
 -- The moves of a line in the order of their ids.
-use Rattle.std.specs.Prelude.{ℕ, Bool, true, List, [], ◌∷◌}
+use Rattle.std.specs.Prelude.{ℕ, Bool, true, List, [], ◌∷◌, Option, Some, None}
 use Rattle.std.specs.Borrow.{Bor}
 use Rattle.std.specs.Cmp.Lexicographic.{slice_cmp}
 use Rattle.std.specs.Ordering.{match_ordering, nat_cmp}
@@ -21,13 +21,13 @@ put_moves moves (next ∷ given) = put_moves (put_move moves next) given
 abbrev pub in_order : List (List ℕ × Direction) → List (List ℕ × Direction)
 in_order = put_moves []
 
--- the moves that these entries are
-abbrev pub moves_in : List (Bor (List ℕ) × Direction) → List (List ℕ × Direction)
-moves_in [] = []
-moves_in (entry ∷ entries) = (entry.0.now, entry.1) ∷ moves_in entries
-
 -- the id is above the last one
 abbrev pub is_last : List ℕ → List (List ℕ × Direction) → Bool
 is_last id [] = true
 is_last id (first ∷ []) = is_text_below first.0 id
 is_last id (_ ∷ second ∷ rest) = is_last id (second ∷ rest)
+
+-- the id is above this one, if there is one
+abbrev pub is_above : List ℕ → Option (Bor (List ℕ)) → Bool
+is_above id None = true
+is_above id (Some last) = is_text_below last.now id

@@ -1,6 +1,6 @@
 use Rattle.std.proofs.Common.{◌≡◌, false, ◌++◌}
 use Rattle.bs_json.specs.inner.Compact.{words_text}
-use Rattle.bs_json.proofs.CutTexts.{are_some}
+use Rattle.bs_json.specs.inner.Compact.{are_some}
 use Rattle.bs_json.proofs.compact.split_words.Given as goal
 
 -- the text before the remaining part is that of the words found

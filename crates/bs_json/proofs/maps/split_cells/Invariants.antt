@@ -1,7 +1,7 @@
 use Rattle.std.proofs.Common.{◌≡◌, false, true, ◌++◌}
 use Rattle.std.specs.List.{list_all}
 use Rattle.bs_json.specs.inner.Maps.{cells_text, is_near_cell}
-use Rattle.bs_json.proofs.CutTexts.{are_some}
+use Rattle.bs_json.specs.inner.Compact.{are_some}
 use Rattle.bs_json.proofs.maps.split_cells.Given as goal
 
 -- the text before the remaining part is that of the cells found
