@@ -1,5 +1,5 @@
 -- The pieces of replies are the texts of their data.
-use Rattle.std.proofs.Common.{◌≡◌, ℕ, List, ◌++◌, codes, Option, refl, ◌∙◌, append_assoc}
+use Rattle.std.proofs.Common.{◌≡◌, ℕ, List, [], ◌∷◌, ◌++◌, codes, Option, refl, sym, ap, ◌∙◌, append_assoc}
 use Rattle.std.specs.Prelude.{decimal}
 use Rattle.json.specs.Print.{escape, escape_byte}
 use Rattle.serde_json.specs.Data.{string}
@@ -10,8 +10,19 @@ use Rattle.bs_board.specs.declared.commands.reply.Refusal.{Refusal}
 use Rattle.bs_board.specs.declared.commands.reply.Reply.TheVariants.{Shown, Plain, Refused}
 use Rattle.bs_json.specs.declared.line.Stray.{Stray}
 use Rattle.bs_json.specs.Boards.{board_data}
-use Rattle.bs_json.specs.Replies.{final_data, last_data, refusal_code, refusal_text, reply_data, stray_code, stray_data, stray_text}
-use Rattle.bs_json.specs.inner.Replies.{code_text, reason_text, tail_pieces}
+use Rattle.bs_json.specs.Replies.{final_data, last_data, refusal_code, refusal_text, reply_data, stray_code, stray_data, stray_text, word_text}
+use Rattle.bs_json.specs.inner.Replies.{answer_pieces, code_text, reason_text, seq_pieces, tail_pieces}
+
+-- a reply's members from the charge's number on, by the pieces that are appended
+pub tail_is : (game : List ℕ) (seq : ℕ) (word : Word) (charge : ℕ) → answer_pieces word charge ++ (escape game ++ seq_pieces seq) ≡ tail_pieces game seq word charge
+unfolding escape_byte
+tail_is game seq word charge =
+    let own = compact_text (string (word_text word)) in
+    let name = codes ",\"game\":\"" in
+    let rest = escape game ++ seq_pieces seq in
+    append_assoc (decimal charge) (codes ",\"do\":" ++ (own ++ name)) rest
+    ∙ ap (λ (t : List ℕ). decimal charge ++ (codes ",\"do\":" ++ t)) (append_assoc own name rest)
+    ∙ ap (λ (t : List ℕ). decimal charge ++ (codes ",\"do\":" ++ (own ++ (name ++ t)))) (sym (append_assoc (escape game) (34 ∷ []) (codes ",\"seq\":" ++ (decimal seq ++ codes "}"))))
 
 pub shown_is : (game : List ℕ) (seq : ℕ) (word : Word) (board : Board) (charge : ℕ)
     → codes "{\"board\":" ++ (compact_text (board_data board) ++ (codes ",\"charge\":" ++ tail_pieces game seq word charge)) ≡ compact_text (reply_data game seq (Shown word board charge))

@@ -1,5 +1,5 @@
 -- The text of numbers and cells, from their bytes.
-use Rattle.std.proofs.Common.{◌≡◌, ℕ, suc, ◌/◌, ◌%◌, ◌+◌, ◌-◌, ◌<◌, ◌≤◌, Bool, true, false, List, [], ◌∷◌, ◌++◌, codes, ℤ, pos, negsuc, nat_abs, ◌+ℤ◌, ◌-ℤ◌, ◌≤ℤ◌, All, length, get_or, take, drop, refl, sym, ap, ap₂, ◌∙◌, arith}
+use Rattle.std.proofs.Common.{◌≡◌, ℕ, suc, ◌/◌, ◌%◌, ◌+◌, ◌-◌, ◌<◌, ◌≤◌, Bool, true, false, List, [], ◌∷◌, ◌++◌, codes, ℤ, pos, negsuc, nat_abs, ◌+ℤ◌, ◌-ℤ◌, ◌≤ℤ◌, All, length, get_or, take, drop, refl, sym, ap, ap₂, ◌∙◌, append_assoc, ◌^◌, arith}
 use Rattle.std.specs.Prelude.{decimal, flat_map, map}
 use Rattle.std.specs.List.{AllByRecursion}
 use Rattle.std.proofs.lemmas.Fmt.{decimal_digit, decimal_step}
@@ -27,8 +27,17 @@ one_digit number few = sym (decimal_digit number few)
 pub two_digits : (number : ℕ) → 10 ≤ number → number < 100 → (48 + number / 10) ∷ (48 + number % 10) ∷ [] ≡ decimal number
 two_digits number many few = sym (decimal_two number many few)
 
-pub hundred : 49 ∷ 48 ∷ 48 ∷ [] ≡ decimal 100
-hundred = ap (λ (t : List ℕ). t ++ 48 ∷ []) (two_digits 10 (omega arith) (omega arith)) ∙ sym (decimal_step 100 (omega arith) (omega arith))
+-- a number of more digits, of which the last two are written behind the others
+pub by_hundreds : (number : ℕ) → 100 ≤ number → number < 2 ^ 64 → decimal (number / 100) ++ ((48 + number % 100 / 10) ∷ (48 + number % 100 % 10) ∷ []) ≡ decimal number
+by_hundreds number many few =
+    let fewer : number / 10 / 10 ≡ number / 100 = omega arith in
+    let tens : number / 10 % 10 ≡ number % 100 / 10 = omega arith in
+    let ones : number % 10 ≡ number % 100 % 10 = omega arith in
+    let first = decimal_step (number / 10) (omega arith) (omega arith) in
+    let last = decimal_step number (omega arith) few in
+    sym (last ∙ ap (λ (t : List ℕ). t ++ (48 + number % 10) ∷ []) first ∙ append_assoc (decimal (number / 10 / 10)) ((48 + number / 10 % 10) ∷ []) ((48 + number % 10) ∷ [])
+    ∙ ap₂ (λ (a : ℕ) (b : ℕ). decimal (number / 10 / 10) ++ ((48 + a) ∷ (48 + b) ∷ [])) tens ones
+    ∙ ap (λ (n : ℕ). decimal n ++ ((48 + number % 100 / 10) ∷ (48 + number % 100 % 10) ∷ [])) fewer)
 
 -- ---- cells
 

@@ -1,15 +1,16 @@
 //! The lines of a transcript. All calls but `final_line` put a line together from pieces of text,
 //! without a JSON value. Appending a line to a buffer allocates nothing.
-ghost use Rattle.std.specs.Prelude.{◌≡◌, IfOk, decimal};
+ghost use Rattle.std.specs.Prelude.{◌≡◌, ◌+◌, ◌++◌, ◌≤◌, IfOk, codes, decimal, length};
 ghost use Rattle.std.specs.Option.{option_copied};
 ghost use Rattle.json.specs.Print.{escape};
 ghost use Rattle.serde_json.specs.Data.{string};
 ghost use Rattle.serde_json.specs.Events.{SendsValue};
 ghost use Rattle.serde_json.specs.View.{view};
 ghost use Rattle.serde_json.specs.Written.{compact_text};
+ghost use Rattle.bs_board.specs.inner.Writing.{Puts};
 ghost use Rattle.bs_board.specs.declared.commands.reply.Reply.TheVariants.{Refused};
 ghost use Rattle.bs_json.specs.Replies.{word_text, refusal_code, refusal_text, stray_code, stray_text, reply_data, last_data, final_data, stray_data, reply_line_of, final_line_of, stray_line_of};
-ghost use Rattle.bs_json.specs.inner.Replies.{IsLineOf, code_text, reason_text, tail_pieces};
+ghost use Rattle.bs_json.specs.inner.Replies.{IsLineOf, answer_pieces, code_text, reason_text, seq_pieces, tail_pieces};
 ghost use Rattle.bs_json.specs.Text.{put};
 
 use crate::boards::board_value;
@@ -17,24 +18,10 @@ use crate::line::Stray;
 use crate::pieces::{push_bytes, push_number, push_string};
 use crate::shown_bytes::push_board;
 use crate::text_buffer::TextBuffer;
+use crate::written::{write, write_number};
 use bs_board::{Board, Id, KeptBoard, Refusal, Reply, Word};
 use serde_json::{Value, json};
 use std::alloc::{AllocError, Global};
-
-/// The name of a command, in quotation marks.
-#[tactic(auto, unfolding(json::specs::Print::escape_byte))]
-fn quoted_word(word: Word) -> &'static [u8]
-    ensures { result.now ≡ compact_text (string (word_text word)) }
-{
-    match word {
-        Word::New => b"\"new\"",
-        Word::Move => b"\"move\"",
-        Word::Show => b"\"show\"",
-        Word::Turn => b"\"turn\"",
-        Word::Free => b"\"free\"",
-        Word::End => b"\"end\"",
-    }
-}
 
 /// The text of a refusal between the game's name and the command's number.
 #[tactic(auto, unfolding(json::specs::Print::escape_byte))]
@@ -98,14 +85,6 @@ fn stray_text(stray: Stray) -> &'static str
     }
 }
 
-/// Appends the name of a command.
-#[inline(always)]
-fn push_word(word: Word, text: &mut TextBuffer)
-    ensures { text.new ≡ put text.old (compact_text (string (word_text word))) }
-{
-    text.push(quoted_word(word));
-}
-
 /// Appends the code of a stray.
 fn push_stray_code(stray: Stray, text: &mut TextBuffer)
     ensures { text.new ≡ put text.old (compact_text (string (stray_code stray))) }
@@ -136,19 +115,80 @@ fn push_charge(charge: u32, text: &mut TextBuffer)
     push_number(u64::from(charge), text);
 }
 
-/// Appends a reply's members from the charge's number on, and the closing bracket.
+/// Writes the name of a command, and the text around it.
+#[tactic(auto, unfolding(json::specs::Print::escape_byte))]
 #[inline(always)]
-fn push_tail(game: &Id, seq: u64, word: Word, charge: u32, text: &mut TextBuffer)
-    ensures { text.new ≡ put text.old (tail_pieces game.now seq word charge) }
+fn write_word(word: Word, bytes: &mut [u8], at: usize) -> usize
+    requires { at + 24 ≤ length bytes.old }
+    ensures { Puts at (codes ",\"do\":" ++ (compact_text (string (word_text word)) ++ codes ",\"game\":\"")) bytes.old bytes.new result }
 {
-    push_charge(charge, text);
-    text.push(b",\"do\":");
-    push_word(word, text);
-    text.push(b",\"game\":");
-    push_game(game, text);
-    text.push(b",\"seq\":");
-    push_number(seq, text);
-    text.push(b"}");
+    let new = *b",\"do\":\"new\",\"game\":\"";
+    let moved = *b",\"do\":\"move\",\"game\":\"";
+    let show = *b",\"do\":\"show\",\"game\":\"";
+    let turn = *b",\"do\":\"turn\",\"game\":\"";
+    let free = *b",\"do\":\"free\",\"game\":\"";
+    let end = *b",\"do\":\"end\",\"game\":\"";
+    match word {
+        Word::New => write(&new, bytes, at),
+        Word::Move => write(&moved, bytes, at),
+        Word::Show => write(&show, bytes, at),
+        Word::Turn => write(&turn, bytes, at),
+        Word::Free => write(&free, bytes, at),
+        Word::End => write(&end, bytes, at),
+    }
+}
+
+/// Writes a charge.
+#[inline(always)]
+fn write_charge(charge: u32, bytes: &mut [u8], at: usize) -> usize
+    requires { at + 20 ≤ length bytes.old }
+    ensures value { Puts at (decimal charge) bytes.old bytes.new result }
+    ensures within { result ≤ at + 20 }
+{
+    write_number(u64::from(charge), bytes, at)
+}
+
+/// Writes a charge, the name of a command, and the text up to the game's name.
+#[inline(always)]
+fn write_answer(word: Word, charge: u32, bytes: &mut [u8], at: usize) -> usize
+    requires { at + 48 ≤ length bytes.old }
+    ensures { Puts at (answer_pieces word charge) bytes.old bytes.new result }
+{
+    let next = write_charge(charge, bytes, at);
+    write_word(word, bytes, next)
+}
+
+/// Writes a command's number, and the text around it.
+#[inline(always)]
+fn write_seq(seq: u64, bytes: &mut [u8], at: usize) -> usize
+    requires { at + 32 ≤ length bytes.old }
+    ensures { Puts at (seq_pieces seq) bytes.old bytes.new result }
+{
+    let name = *b"\",\"seq\":";
+    let end = *b"}";
+    let named = write(&name, bytes, at);
+    let next = write_number(seq, bytes, named);
+    write(&end, bytes, next)
+}
+
+/// Appends a charge, the name of a command, and the text up to the game's name.
+#[inline(always)]
+fn push_answer(word: Word, charge: u32, text: &mut TextBuffer)
+    ensures { text.new ≡ put text.old (answer_pieces word charge) }
+{
+    let mut piece = [0; 48];
+    let end = write_answer(word, charge, &mut piece, 0);
+    text.push(&piece[..end]);
+}
+
+/// Appends a command's number, and the text around it.
+#[inline(always)]
+fn push_seq(seq: u64, text: &mut TextBuffer)
+    ensures { text.new ≡ put text.old (seq_pieces seq) }
+{
+    let mut piece = [0; 32];
+    let end = write_seq(seq, &mut piece, 0);
+    text.push(&piece[..end]);
 }
 
 /// Appends the bytes of a game's name, without quotation marks.
@@ -157,6 +197,16 @@ fn push_name(game: &Id, text: &mut TextBuffer)
     ensures { text.new ≡ put text.old (escape game.now) }
 {
     push_bytes(game.as_bytes(), text);
+}
+
+/// Appends a reply's members from the charge's number on, and the closing bracket.
+#[inline(always)]
+fn push_tail(game: &Id, seq: u64, word: Word, charge: u32, text: &mut TextBuffer)
+    ensures { text.new ≡ put text.old (tail_pieces game.now seq word charge) }
+{
+    push_answer(word, charge, text);
+    push_name(game, text);
+    push_seq(seq, text);
 }
 
 /// Appends the members of a refusal between the game's name and the command's number.

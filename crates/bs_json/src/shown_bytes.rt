@@ -1,7 +1,7 @@
 //! Appends the JSON text of a board directly from the bytes of its record: no board is decoded, and
 //! no JSON value is made.
-ghost use Rattle.std.specs.Prelude.{◌≡◌, ◌++◌, ◌∷◌, ◌-ℤ◌, All, List, [], None, Some, codes, decimal, flat_map, length, option_copied, option_map, pos, slice_get};
-ghost use Rattle.serde_json.specs.Data.{boolean, no_items, null, string};
+ghost use Rattle.std.specs.Prelude.{◌≡◌, ◌++◌, ◌∷◌, ◌-ℤ◌, All, List, [], None, Some, codes, flat_map, option_copied, option_map, pos, slice_get};
+ghost use Rattle.serde_json.specs.Data.{no_items, null};
 ghost use Rattle.serde_json.specs.Written.{comma_if, compact_text};
 ghost use Rattle.bs_board.specs.declared.boards.board.Board.{Board as AnyBoard};
 ghost use Rattle.bs_board.specs.declared.boards.snake.Snake.{Snake as AnySnake};
@@ -9,15 +9,16 @@ ghost use Rattle.bs_board.specs.records.Layout.{IsBoardBytes, IsSnakeBytes};
 ghost use Rattle.bs_board.specs.records.Record.{snake_record};
 ghost use Rattle.bs_board.specs.records.Writing.{IsWritable};
 ghost use Rattle.bs_board.specs.inner.Writing.{IsWritableBoard};
-ghost use Rattle.bs_json.specs.Boards.{board_data, cause_data, cell_data, cells_data, killer_data, mode_text, out_data, snake_data, snakes_data};
-ghost use Rattle.bs_json.specs.inner.BoardText.{back_pieces, board_of, cell_of, cells_of, coordinate_text, front_pieces, hazard_pieces, hazards_of, list_rest, snake_of, snake_pieces, text_data};
+ghost use Rattle.bs_json.specs.Boards.{board_data, cause_data, cell_data, cells_data, killer_data, out_data, snake_data, snakes_data};
+ghost use Rattle.bs_json.specs.inner.BoardText.{back_pieces, board_of, cell_of, cells_of, coordinate_text, front_pieces, hazard_pieces, hazards_of, list_rest, rule_pieces, snake_of, snake_pieces, text_data};
 ghost use Rattle.bs_json.specs.Text.{put};
 
-use crate::boards::{cause_text, mode_text};
+use crate::boards::cause_text;
 use crate::cell_texts::byte_before;
-use crate::pieces::{push_bytes, push_small, push_string, push_string_or_null, push_turn};
+use crate::pieces::{push_small, push_string, push_string_or_null, push_turn};
 use crate::text_buffer::TextBuffer;
-use bs_board::{BoardBytes, Cause, KeptBoard, Mode, SnakeBytes, skip_snakes, split_snake};
+use crate::written::{write_back, write_rules};
+use bs_board::{BoardBytes, Cause, KeptBoard, SnakeBytes, skip_snakes, split_snake};
 
 /// Appends a column or a row, which the record stores with `raised` added.
 #[tactic(auto, using(crate::proofs::ShownCells::coordinate_inside, crate::proofs::ShownCells::beyond_pieces))]
@@ -208,26 +209,6 @@ fn push_snakes(board: &BoardBytes<'_>, text: &mut TextBuffer)
     text.push(b"]");
 }
 
-/// Appends whether a game is over.
-#[inline(always)]
-fn push_over(over: bool, text: &mut TextBuffer)
-    ensures { text.new ≡ put text.old (compact_text (boolean over)) }
-{
-    if over {
-        text.push(b"true");
-    } else {
-        text.push(b"false");
-    }
-}
-
-/// Appends the name of a mode.
-#[inline(always)]
-fn push_mode(mode: Mode, text: &mut TextBuffer)
-    ensures { text.new ≡ put text.old (compact_text (string (mode_text mode))) }
-{
-    push_string(mode_text(mode).as_bytes(), text);
-}
-
 /// Appends the hazards, in a game that has some.
 #[tactic(auto, using(crate::proofs::Puts::put_none))]
 fn push_hazards(board: &BoardBytes<'_>, text: &mut TextBuffer)
@@ -241,6 +222,16 @@ fn push_hazards(board: &BoardBytes<'_>, text: &mut TextBuffer)
     }
 }
 
+/// Appends the members of a board between its hazards and its snakes.
+#[inline(always)]
+fn push_rules(over: bool, board: &BoardBytes<'_>, text: &mut TextBuffer)
+    ensures { text.new ≡ put text.old (rule_pieces over (board_of board.now [])) }
+{
+    let mut piece = [0; 128];
+    let end = write_rules(over, board, &mut piece, 0);
+    text.push(&piece[..end]);
+}
+
 /// Appends a board up to its snakes, and whether its game is over.
 #[inline(always)]
 fn push_front(over: bool, board: &BoardBytes<'_>, text: &mut TextBuffer)
@@ -251,15 +242,7 @@ fn push_front(over: bool, board: &BoardBytes<'_>, text: &mut TextBuffer)
     text.push(b",\"food_chance\":");
     push_small(board.chance, text);
     push_hazards(board, text);
-    text.push(b",\"height\":");
-    push_small(board.height, text);
-    text.push(b",\"min_food\":");
-    push_small(board.min_food, text);
-    text.push(b",\"mode\":");
-    push_mode(board.mode, text);
-    text.push(b",\"over\":");
-    push_over(over, text);
-    text.push(b",\"snakes\":");
+    push_rules(over, board, text);
 }
 
 /// Appends the rest of a board, after its snakes.
@@ -267,11 +250,9 @@ fn push_front(over: bool, board: &BoardBytes<'_>, text: &mut TextBuffer)
 fn push_back(board: &BoardBytes<'_>, text: &mut TextBuffer)
     ensures { text.new ≡ put text.old (back_pieces (board_of board.now [])) }
 {
-    text.push(b",\"turn\":");
-    push_turn(board.turn, text);
-    text.push(b",\"width\":");
-    push_small(board.width, text);
-    text.push(b"}");
+    let mut piece = [0; 64];
+    let end = write_back(board, &mut piece, 0);
+    text.push(&piece[..end]);
 }
 
 /// Appends a board from the parts of its record.

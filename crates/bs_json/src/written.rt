@@ -1,20 +1,21 @@
 //! Parts of a board's text that are written from an index of a slice on, where there is room. A
 //! part that can't be written this way leaves what is before that index.
-ghost use Rattle.std.specs.Prelude.{◌≡◌, ◌++◌, ◌+◌, ◌*◌, ◌-◌, ◌&&◌, ◌∷◌, ◌≤◌, ◌<◌, IfSome, codes, decimal, length, nat_le, nat_lt, take};
-ghost use Rattle.serde_json.specs.Data.{no_items, null};
+ghost use Rattle.std.specs.Prelude.{◌≡◌, ◌++◌, ◌+◌, ◌*◌, ◌-◌, ◌&&◌, ◌∷◌, ◌≤◌, ◌<◌, IfSome, [], codes, decimal, length, nat_le, nat_lt, take};
+ghost use Rattle.serde_json.specs.Data.{boolean, no_items, null, string};
 ghost use Rattle.serde_json.specs.Written.{compact_text};
 ghost use Rattle.bs_board.specs.inner.Writing.{Puts};
-ghost use Rattle.bs_json.specs.Boards.{cells_data};
-ghost use Rattle.bs_json.specs.inner.BoardText.{cells_of, list_rest, snake_of, snake_pieces};
+ghost use Rattle.bs_json.specs.Boards.{cells_data, mode_text};
+ghost use Rattle.bs_json.specs.inner.BoardText.{back_pieces, board_of, cells_of, list_rest, rule_pieces, snake_of, snake_pieces};
 ghost use Rattle.bs_json.specs.inner.Writing.{Writes};
 
 use crate::cell_texts::{SIDE, byte_before, column_text, row_text, text_len};
 use crate::pieces::are_plain;
-use bs_board::SnakeBytes;
+use bs_board::{BoardBytes, Mode, SnakeBytes};
+use itoa::Buffer;
 
 /// Writes a piece, and returns the index behind it.
 #[inline(always)]
-fn write(piece: &[u8], bytes: &mut [u8], at: usize) -> usize
+pub(crate) fn write(piece: &[u8], bytes: &mut [u8], at: usize) -> usize
     requires { at + length piece.now ≤ length bytes.old }
     ensures { Puts at piece.now bytes.old bytes.new result }
 {
@@ -106,24 +107,127 @@ pub(crate) fn write_list(raised: u8, cells: &[u8], bytes: &mut [u8], at: usize) 
     Some(end)
 }
 
-/// Writes the digits of a snake's health.
+/// Writes the digits of a number below 100.
 #[inline(always)]
-fn write_health(health: u8, bytes: &mut [u8], at: usize) -> usize
-    requires most { health ≤ 100 }
-    requires room { at + 3 ≤ length bytes.old }
-    ensures value { Puts at (decimal health) bytes.old bytes.new result }
-    ensures within { result ≤ at + 3 }
+fn write_short(number: u8, bytes: &mut [u8], at: usize) -> usize
+    requires few { number < 100 }
+    requires room { at + 2 ≤ length bytes.old }
+    ensures value { Puts at (decimal number) bytes.old bytes.new result }
+    ensures within { result ≤ at + 2 }
 {
-    if health < 10 {
-        let digits = [b'0' + health];
-        write(&digits, bytes, at)
-    } else if health < 100 {
-        let digits = [b'0' + health / 10, b'0' + health % 10];
+    if number < 10 {
+        let digits = [b'0' + number];
         write(&digits, bytes, at)
     } else {
-        let digits = *b"100";
+        let digits = [b'0' + number / 10, b'0' + number % 10];
         write(&digits, bytes, at)
     }
+}
+
+/// Writes the digits of a number.
+#[inline(always)]
+pub(crate) fn write_number(number: u64, bytes: &mut [u8], at: usize) -> usize
+    requires { at + 20 ≤ length bytes.old }
+    ensures value { Puts at (decimal number) bytes.old bytes.new result }
+    ensures within { result ≤ at + 20 }
+{
+    if number < 100 {
+        write_short(number as u8, bytes, at)
+    } else if number < 10000 {
+        let middle = write_short((number / 100) as u8, bytes, at);
+        let last = (number % 100) as u8;
+        let digits = [b'0' + last / 10, b'0' + last % 10];
+        write(&digits, bytes, middle)
+    } else {
+        write(Buffer::new().format(number).as_bytes(), bytes, at)
+    }
+}
+
+/// Writes a number of one byte.
+#[inline(always)]
+fn write_small(number: u8, bytes: &mut [u8], at: usize) -> usize
+    requires { at + 20 ≤ length bytes.old }
+    ensures value { Puts at (decimal number) bytes.old bytes.new result }
+    ensures within { result ≤ at + 20 }
+{
+    write_number(u64::from(number), bytes, at)
+}
+
+/// Writes the number of a turn.
+#[inline(always)]
+fn write_turn(turn: u16, bytes: &mut [u8], at: usize) -> usize
+    requires { at + 20 ≤ length bytes.old }
+    ensures value { Puts at (decimal turn) bytes.old bytes.new result }
+    ensures within { result ≤ at + 20 }
+{
+    write_number(u64::from(turn), bytes, at)
+}
+
+/// Writes the name of a mode.
+#[tactic(auto, unfolding(json::specs::Print::escape_byte))]
+#[inline(always)]
+fn write_mode(mode: Mode, bytes: &mut [u8], at: usize) -> usize
+    requires { at + 30 ≤ length bytes.old }
+    ensures value { Puts at (codes ",\"mode\":" ++ compact_text (string (mode_text mode))) bytes.old bytes.new result }
+    ensures within { result ≤ at + 30 }
+{
+    let standard = *b",\"mode\":\"standard\"";
+    let solo = *b",\"mode\":\"solo\"";
+    let constrictor = *b",\"mode\":\"constrictor\"";
+    let wrapped = *b",\"mode\":\"wrapped\"";
+    match mode {
+        Mode::Standard => write(&standard, bytes, at),
+        Mode::Solo => write(&solo, bytes, at),
+        Mode::Constrictor => write(&constrictor, bytes, at),
+        Mode::Wrapped => write(&wrapped, bytes, at),
+    }
+}
+
+/// Writes whether a game is over, and the name of the snakes' list.
+#[inline(always)]
+fn write_over(over: bool, bytes: &mut [u8], at: usize) -> usize
+    requires { at + 25 ≤ length bytes.old }
+    ensures { Puts at (codes ",\"over\":" ++ (compact_text (boolean over) ++ codes ",\"snakes\":")) bytes.old bytes.new result }
+{
+    let yes = *b",\"over\":true,\"snakes\":";
+    let no = *b",\"over\":false,\"snakes\":";
+    if over {
+        write(&yes, bytes, at)
+    } else {
+        write(&no, bytes, at)
+    }
+}
+
+/// Writes the members of a board between its hazards and its snakes.
+#[inline(always)]
+pub(crate) fn write_rules(over: bool, board: &BoardBytes<'_>, bytes: &mut [u8], at: usize) -> usize
+    requires { at + 128 ≤ length bytes.old }
+    ensures { Puts at (rule_pieces over (board_of board.now [])) bytes.old bytes.new result }
+{
+    let height_name = *b",\"height\":";
+    let min_food_name = *b",\"min_food\":";
+    let height = write(&height_name, bytes, at);
+    let height = write_small(board.height, bytes, height);
+    let fewest = write(&min_food_name, bytes, height);
+    let fewest = write_small(board.min_food, bytes, fewest);
+    let mode = write_mode(board.mode, bytes, fewest);
+    write_over(over, bytes, mode)
+}
+
+/// Writes the members of a board behind its snakes.
+#[inline(always)]
+pub(crate) fn write_back(board: &BoardBytes<'_>, bytes: &mut [u8], at: usize) -> usize
+    requires { at + 64 ≤ length bytes.old }
+    ensures { Puts at (back_pieces (board_of board.now [])) bytes.old bytes.new result }
+{
+    let turn_name = *b",\"turn\":";
+    let width_name = *b",\"width\":";
+    let end = *b"}";
+    let turn = write(&turn_name, bytes, at);
+    let turn = write_turn(board.turn, bytes, turn);
+    let width = write(&width_name, bytes, turn);
+    let width = write_small(board.width, bytes, width);
+    write(&end, bytes, width)
 }
 
 /// Writes a snake that is not eliminated.
@@ -134,10 +238,10 @@ pub(crate) fn write_living(snake: &SnakeBytes<'_>, bytes: &mut [u8], at: usize) 
 {
     let eights = (bytes.len() - at) / 8;
     let parts = snake.body.len();
-    if snake.cause.is_some() || snake.out.is_some() || snake.health > 100 || !are_plain(snake.id) {
+    if snake.cause.is_some() || snake.out.is_some() || !are_plain(snake.id) {
         return None;
     }
-    if eights < parts || eights - parts < snake.id.len() + 9 {
+    if eights < parts || eights - parts < snake.id.len() + 11 {
         return None;
     }
     let body = *b"{\"body\":";
@@ -147,7 +251,7 @@ pub(crate) fn write_living(snake: &SnakeBytes<'_>, bytes: &mut [u8], at: usize) 
     let cells = write(&body, bytes, at);
     let by = write_cells(1, snake.body, bytes, cells)?;
     let number = write(&health, bytes, by);
-    let named = write_health(snake.health, bytes, number);
+    let named = write_small(snake.health, bytes, number);
     let own = write(&id, bytes, named);
     let out = write(snake.id, bytes, own);
     let end = write(&last, bytes, out);

@@ -73,6 +73,12 @@ abbrev pub hazard_pieces : Option Hazards → List ℕ
 hazard_pieces None = []
 hazard_pieces (Some h) = codes ",\"hazard_damage\":" ++ (decimal h.damage ++ (codes ",\"hazards\":" ++ compact_text (cells_data h.cells)))
 
+-- The members of a board between its hazards and its snakes.
+abbrev pub rule_pieces : Bool → Board → List ℕ
+rule_pieces over b =
+    codes ",\"height\":" ++ (decimal b.height ++ (codes ",\"min_food\":" ++ (decimal b.min_food ++ ((codes ",\"mode\":" ++ compact_text (string (mode_text b.mode)))
+    ++ (codes ",\"over\":" ++ (compact_text (boolean over) ++ codes ",\"snakes\":"))))))
+
 -- A board up to its snakes.
 abbrev pub front_pieces : Bool → Board → List ℕ
 front_pieces over b =

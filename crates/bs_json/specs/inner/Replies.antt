@@ -14,6 +14,13 @@ tail_pieces game seq word charge =
     decimal charge ++ (codes ",\"do\":" ++ (compact_text (string (word_text word)) ++ (codes ",\"game\":" ++ (compact_text (string game)
     ++ (codes ",\"seq\":" ++ (decimal seq ++ codes "}"))))))
 
+-- Its text before the game's name, and the text behind that.
+abbrev pub answer_pieces : Word → ℕ → List ℕ
+answer_pieces word charge = decimal charge ++ (codes ",\"do\":" ++ (compact_text (string (word_text word)) ++ codes ",\"game\":\""))
+
+abbrev pub seq_pieces : ℕ → List ℕ
+seq_pieces seq = codes "\",\"seq\":" ++ (decimal seq ++ codes "}")
+
 -- the text that is sent to an empty log, then a line feed
 abbrev pub IsLineOf : (Log → Log → Type 0) → List ℕ → Type 0
 IsLineOf Sends line = (text : List ℕ) × (log : Log) × Sends (Some []) log × IsTextOf log text × (line ≡ text ++ 10 ∷ [])

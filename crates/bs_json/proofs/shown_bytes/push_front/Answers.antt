@@ -3,5 +3,4 @@ use Rattle.bs_json.proofs.shown_bytes.push_front.Goals as goal
 
 pub returns : goal.returns
 returns c =
-    next _ _ _ _ _ c.push.ensures (next _ _ _ _ _ c.push_cells.ensures (next _ _ _ _ _ c.push-2.ensures (next _ _ _ _ _ c.push_small.ensures (next _ _ _ _ _ c.push_hazards.ensures (next _ _ _ _ _ c.push-3.ensures (next _ _ _ _ _ c.push_small-2.ensures
-    (next _ _ _ _ _ c.push-4.ensures (next _ _ _ _ _ c.push_small-3.ensures (next _ _ _ _ _ c.push-5.ensures (next _ _ _ _ _ c.push_mode.ensures (next _ _ _ _ _ c.push-6.ensures (next _ _ _ _ _ c.push_over.ensures c.push-7.ensures))))))))))))
+    next _ _ _ _ _ c.push.ensures (next _ _ _ _ _ c.push_cells.ensures (next _ _ _ _ _ c.push-2.ensures (next _ _ _ _ _ c.push_small.ensures (next _ _ _ _ _ c.push_hazards.ensures c.push_rules.ensures))))

@@ -10,4 +10,4 @@ returns c =
     let plain : are_plain c.args.snake.now.id.now ≡ true = search rules in
     is_written _ _ _ _ _
     (living_written _ _ _ _ _ _ _ _ _ _ _ _ _ _ _ _ c.args.snake.now no_cause not_out plain c.write-cells.ensures c.in_ok-by.ensures.value.written c.write-number.ensures
-    c.write_health-named.ensures.value c.write-own.ensures c.write-out.ensures c.write-end.ensures) c.requires
+    c.write_small-named.ensures.value c.write-own.ensures c.write-out.ensures c.write-end.ensures) c.requires

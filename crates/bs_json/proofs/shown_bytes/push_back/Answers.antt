@@ -1,6 +1,0 @@
-use Rattle.bs_json.proofs.Puts.{next}
-use Rattle.bs_json.proofs.shown_bytes.push_back.Goals as goal
-
-pub returns : goal.returns
-returns c =
-    next _ _ _ _ _ c.push.ensures (next _ _ _ _ _ c.push_turn.ensures (next _ _ _ _ _ c.push-2.ensures (next _ _ _ _ _ c.push_small.ensures c.push-3.ensures)))
