@@ -19,6 +19,10 @@ use bs_board::{Cells, Command, Direction, Id, Move, Moves, Version, Words};
 use std::alloc::{AllocError, Global};
 use std::str;
 
+/// The most bytes of an id whose move is packed as it comes. Those of longer ids soon take memory
+/// outside of the value, which would be wasted where a later id is out of order.
+const SHORT_ID: usize = 8;
+
 /// Whether the byte is printable ASCII and needs no escape in a string.
 pub(crate) fn is_plain(byte: u8) -> bool
     ensures { result ≡ is_plain byte }
@@ -131,7 +135,8 @@ fn split_others<'e, 'l: 'e>(
 }
 
 /// Parses all moves up to the closing brace. Returns them in the order of their ids, each id once,
-/// with the direction that it has last. Moves whose ids ascend are packed as they come.
+/// with the direction that it has last. Moves whose ids are short and ascend are packed as they
+/// come.
 #[tactic(auto, using(crate::proofs::GivenMoves::no_moves, crate::proofs::GivenMoves::one_more, crate::proofs::GivenMoves::are_plain_in_order, crate::proofs::GivenMoves::ascend_in_order))]
 fn split_moves<'l>(alloc: Global, line: &'l [u8]) -> Result<Option<(Moves, &'l [u8])>, AllocError>
     ensures text { IfOk result (λ cut. IfSome cut (λ found. GivenMoves line.now found.0 (125 ∷ found.1.now))) }
@@ -147,7 +152,7 @@ fn split_moves<'l>(alloc: Global, line: &'l [u8]) -> Result<Option<(Moves, &'l [
         let Some((id, direction, rest)) = split_next_move(left, last.is_some()) else {
             return Ok(None);
         };
-        if !is_above(id, last) {
+        if id.len() > SHORT_ID || !is_above(id, last) {
             let mut entries = moves.entries(alloc)?;
             insert(&mut entries, id, direction)?;
             return split_others(alloc, line, entries, rest);
