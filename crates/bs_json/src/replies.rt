@@ -1,13 +1,12 @@
 //! The lines of a transcript. All calls but `final_line` put a line together from pieces of text,
 //! without a JSON value. Appending a line to a buffer allocates nothing.
-ghost use Rattle.std.specs.Prelude.{◌≡◌, ◌+◌, ◌++◌, ◌≤◌, IfOk, codes, decimal, length};
+ghost use Rattle.std.specs.Prelude.{◌≡◌, IfOk, decimal};
 ghost use Rattle.std.specs.Option.{option_copied};
 ghost use Rattle.json.specs.Print.{escape};
 ghost use Rattle.serde_json.specs.Data.{string};
 ghost use Rattle.serde_json.specs.Events.{SendsValue};
 ghost use Rattle.serde_json.specs.View.{view};
 ghost use Rattle.serde_json.specs.Written.{compact_text};
-ghost use Rattle.bs_board.specs.inner.Writing.{Puts};
 ghost use Rattle.bs_board.specs.declared.commands.reply.Reply.TheVariants.{Refused};
 ghost use Rattle.bs_json.specs.Replies.{word_text, refusal_code, refusal_text, stray_code, stray_text, reply_data, last_data, final_data, stray_data, reply_line_of, final_line_of, stray_line_of};
 ghost use Rattle.bs_json.specs.inner.Replies.{IsLineOf, answer_pieces, code_text, reason_text, seq_pieces, tail_pieces};
@@ -18,7 +17,7 @@ use crate::line::Stray;
 use crate::pieces::{push_bytes, push_number, push_string};
 use crate::shown_bytes::push_board;
 use crate::text_buffer::TextBuffer;
-use crate::written::{write, write_number};
+use crate::written::{write_answer, write_seq};
 use bs_board::{Board, Id, KeptBoard, Refusal, Reply, Word};
 use serde_json::{Value, json};
 use std::alloc::{AllocError, Global};
@@ -115,70 +114,18 @@ fn push_charge(charge: u32, text: &mut TextBuffer)
     push_number(u64::from(charge), text);
 }
 
-/// Writes the name of a command, and the text around it.
-#[tactic(auto, unfolding(json::specs::Print::escape_byte))]
-#[inline(always)]
-fn write_word(word: Word, bytes: &mut [u8], at: usize) -> usize
-    requires { at + 24 ≤ length bytes.old }
-    ensures { Puts at (codes ",\"do\":" ++ (compact_text (string (word_text word)) ++ codes ",\"game\":\"")) bytes.old bytes.new result }
-{
-    let new = *b",\"do\":\"new\",\"game\":\"";
-    let moved = *b",\"do\":\"move\",\"game\":\"";
-    let show = *b",\"do\":\"show\",\"game\":\"";
-    let turn = *b",\"do\":\"turn\",\"game\":\"";
-    let free = *b",\"do\":\"free\",\"game\":\"";
-    let end = *b",\"do\":\"end\",\"game\":\"";
-    match word {
-        Word::New => write(&new, bytes, at),
-        Word::Move => write(&moved, bytes, at),
-        Word::Show => write(&show, bytes, at),
-        Word::Turn => write(&turn, bytes, at),
-        Word::Free => write(&free, bytes, at),
-        Word::End => write(&end, bytes, at),
-    }
-}
-
-/// Writes a charge.
-#[inline(always)]
-fn write_charge(charge: u32, bytes: &mut [u8], at: usize) -> usize
-    requires { at + 20 ≤ length bytes.old }
-    ensures value { Puts at (decimal charge) bytes.old bytes.new result }
-    ensures within { result ≤ at + 20 }
-{
-    write_number(u64::from(charge), bytes, at)
-}
-
-/// Writes a charge, the name of a command, and the text up to the game's name.
-#[inline(always)]
-fn write_answer(word: Word, charge: u32, bytes: &mut [u8], at: usize) -> usize
-    requires { at + 48 ≤ length bytes.old }
-    ensures { Puts at (answer_pieces word charge) bytes.old bytes.new result }
-{
-    let next = write_charge(charge, bytes, at);
-    write_word(word, bytes, next)
-}
-
-/// Writes a command's number, and the text around it.
-#[inline(always)]
-fn write_seq(seq: u64, bytes: &mut [u8], at: usize) -> usize
-    requires { at + 32 ≤ length bytes.old }
-    ensures { Puts at (seq_pieces seq) bytes.old bytes.new result }
-{
-    let name = *b"\",\"seq\":";
-    let end = *b"}";
-    let named = write(&name, bytes, at);
-    let next = write_number(seq, bytes, named);
-    write(&end, bytes, next)
-}
-
 /// Appends a charge, the name of a command, and the text up to the game's name.
 #[inline(always)]
 fn push_answer(word: Word, charge: u32, text: &mut TextBuffer)
     ensures { text.new ≡ put text.old (answer_pieces word charge) }
 {
-    let mut piece = [0; 48];
-    let end = write_answer(word, charge, &mut piece, 0);
-    text.push(&piece[..end]);
+    if 48 <= text.left() {
+        text.store_answer(word, charge);
+    } else {
+        let mut piece = [0; 48];
+        let end = write_answer(word, charge, &mut piece, 0);
+        text.push(&piece[..end]);
+    }
 }
 
 /// Appends a command's number, and the text around it.
@@ -186,9 +133,13 @@ fn push_answer(word: Word, charge: u32, text: &mut TextBuffer)
 fn push_seq(seq: u64, text: &mut TextBuffer)
     ensures { text.new ≡ put text.old (seq_pieces seq) }
 {
-    let mut piece = [0; 32];
-    let end = write_seq(seq, &mut piece, 0);
-    text.push(&piece[..end]);
+    if 32 <= text.left() {
+        text.store_seq(seq);
+    } else {
+        let mut piece = [0; 32];
+        let end = write_seq(seq, &mut piece, 0);
+        text.push(&piece[..end]);
+    }
 }
 
 /// Appends the bytes of a game's name, without quotation marks.

@@ -227,9 +227,13 @@ fn push_hazards(board: &BoardBytes<'_>, text: &mut TextBuffer)
 fn push_rules(over: bool, board: &BoardBytes<'_>, text: &mut TextBuffer)
     ensures { text.new ≡ put text.old (rule_pieces over (board_of board.now [])) }
 {
-    let mut piece = [0; 128];
-    let end = write_rules(over, board, &mut piece, 0);
-    text.push(&piece[..end]);
+    if 128 <= text.left() {
+        text.store_rules(over, board);
+    } else {
+        let mut piece = [0; 128];
+        let end = write_rules(over, board, &mut piece, 0);
+        text.push(&piece[..end]);
+    }
 }
 
 /// Appends a board up to its snakes, and whether its game is over.
@@ -250,9 +254,13 @@ fn push_front(over: bool, board: &BoardBytes<'_>, text: &mut TextBuffer)
 fn push_back(board: &BoardBytes<'_>, text: &mut TextBuffer)
     ensures { text.new ≡ put text.old (back_pieces (board_of board.now [])) }
 {
-    let mut piece = [0; 64];
-    let end = write_back(board, &mut piece, 0);
-    text.push(&piece[..end]);
+    if 64 <= text.left() {
+        text.store_back(board);
+    } else {
+        let mut piece = [0; 64];
+        let end = write_back(board, &mut piece, 0);
+        text.push(&piece[..end]);
+    }
 }
 
 /// Appends a board from the parts of its record.

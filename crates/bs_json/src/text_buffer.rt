@@ -1,13 +1,14 @@
 //! A text buffer of fixed capacity, which is allocated once.
-ghost use Rattle.std.specs.Prelude.{◌≡◌, ◌+◌, ◌<◌, ◌≤◌, ◌^◌, if◌then◌else◌, length, IfOk};
+ghost use Rattle.std.specs.Prelude.{◌≡◌, ◌+◌, ◌<◌, ◌≤◌, ◌^◌, [], if◌then◌else◌, length, IfOk};
 ghost use Rattle.serde_json.specs.Data.{null};
 ghost use Rattle.serde_json.specs.Written.{compact_text};
 ghost use Rattle.bs_json.specs.Boards.{cells_data};
-ghost use Rattle.bs_json.specs.inner.BoardText.{cells_of, snake_of, snake_pieces};
+ghost use Rattle.bs_json.specs.inner.BoardText.{back_pieces, board_of, cells_of, rule_pieces, snake_of, snake_pieces};
+ghost use Rattle.bs_json.specs.inner.Replies.{answer_pieces, seq_pieces};
 ghost use Rattle.bs_json.specs.Text.{blank, put};
 
-use crate::written::{write_list, write_living};
-use bs_board::SnakeBytes;
+use crate::written::{write_answer, write_back, write_list, write_living, write_rules, write_seq};
+use bs_board::{BoardBytes, SnakeBytes, Word};
 use std::alloc::{AllocError, Global};
 use std::marker::Model;
 
@@ -149,6 +150,42 @@ impl TextBuffer {
             }
             None => false,
         }
+    }
+
+    /// Appends the members of a board between its hazards and its snakes.
+    #[inline(always)]
+    pub(crate) fn store_rules(&mut self, over: bool, board: &BoardBytes<'_>)
+        requires { length self.old.bytes + 128 ≤ self.old.room }
+        ensures { self.new ≡ put self.old (rule_pieces over (board_of board.now [])) }
+    {
+        self.len = write_rules(over, board, &mut self.bytes, self.len);
+    }
+
+    /// Appends the members of a board behind its snakes.
+    #[inline(always)]
+    pub(crate) fn store_back(&mut self, board: &BoardBytes<'_>)
+        requires { length self.old.bytes + 64 ≤ self.old.room }
+        ensures { self.new ≡ put self.old (back_pieces (board_of board.now [])) }
+    {
+        self.len = write_back(board, &mut self.bytes, self.len);
+    }
+
+    /// Appends a charge, the name of a command, and the text up to the game's name.
+    #[inline(always)]
+    pub(crate) fn store_answer(&mut self, word: Word, charge: u32)
+        requires { length self.old.bytes + 48 ≤ self.old.room }
+        ensures { self.new ≡ put self.old (answer_pieces word charge) }
+    {
+        self.len = write_answer(word, charge, &mut self.bytes, self.len);
+    }
+
+    /// Appends a command's number, and the text around it.
+    #[inline(always)]
+    pub(crate) fn store_seq(&mut self, seq: u64)
+        requires { length self.old.bytes + 32 ≤ self.old.room }
+        ensures { self.new ≡ put self.old (seq_pieces seq) }
+    {
+        self.len = write_seq(seq, &mut self.bytes, self.len);
     }
 
     /// Appends a piece; counts the bytes for which there is no room. Allocates nothing.

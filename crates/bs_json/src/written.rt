@@ -1,21 +1,23 @@
-//! Parts of a board's text that are written from an index of a slice on, where there is room. A
-//! part that can't be written this way leaves what is before that index.
+//! Parts of lines that are written from an index of a slice on, where there is room. A part that
+//! can't be written this way leaves what is before that index.
 ghost use Rattle.std.specs.Prelude.{◌≡◌, ◌++◌, ◌+◌, ◌*◌, ◌-◌, ◌&&◌, ◌∷◌, ◌≤◌, ◌<◌, IfSome, [], codes, decimal, length, nat_le, nat_lt, take};
 ghost use Rattle.serde_json.specs.Data.{boolean, no_items, null, string};
 ghost use Rattle.serde_json.specs.Written.{compact_text};
 ghost use Rattle.bs_board.specs.inner.Writing.{Puts};
 ghost use Rattle.bs_json.specs.Boards.{cells_data, mode_text};
 ghost use Rattle.bs_json.specs.inner.BoardText.{back_pieces, board_of, cells_of, list_rest, rule_pieces, snake_of, snake_pieces};
+ghost use Rattle.bs_json.specs.Replies.{word_text};
+ghost use Rattle.bs_json.specs.inner.Replies.{answer_pieces, seq_pieces};
 ghost use Rattle.bs_json.specs.inner.Writing.{Writes};
 
 use crate::cell_texts::{SIDE, byte_before, column_text, row_text, text_len};
 use crate::pieces::are_plain;
-use bs_board::{BoardBytes, Mode, SnakeBytes};
+use bs_board::{BoardBytes, Mode, SnakeBytes, Word};
 use itoa::Buffer;
 
 /// Writes a piece, and returns the index behind it.
 #[inline(always)]
-pub(crate) fn write(piece: &[u8], bytes: &mut [u8], at: usize) -> usize
+fn write(piece: &[u8], bytes: &mut [u8], at: usize) -> usize
     requires { at + length piece.now ≤ length bytes.old }
     ensures { Puts at piece.now bytes.old bytes.new result }
 {
@@ -126,7 +128,7 @@ fn write_short(number: u8, bytes: &mut [u8], at: usize) -> usize
 
 /// Writes the digits of a number.
 #[inline(always)]
-pub(crate) fn write_number(number: u64, bytes: &mut [u8], at: usize) -> usize
+fn write_number(number: u64, bytes: &mut [u8], at: usize) -> usize
     requires { at + 20 ≤ length bytes.old }
     ensures value { Puts at (decimal number) bytes.old bytes.new result }
     ensures within { result ≤ at + 20 }
@@ -256,4 +258,60 @@ pub(crate) fn write_living(snake: &SnakeBytes<'_>, bytes: &mut [u8], at: usize) 
     let out = write(snake.id, bytes, own);
     let end = write(&last, bytes, out);
     Some(end)
+}
+
+/// Writes the name of a command, and the text around it.
+#[tactic(auto, unfolding(json::specs::Print::escape_byte))]
+#[inline(always)]
+fn write_word(word: Word, bytes: &mut [u8], at: usize) -> usize
+    requires { at + 24 ≤ length bytes.old }
+    ensures { Puts at (codes ",\"do\":" ++ (compact_text (string (word_text word)) ++ codes ",\"game\":\"")) bytes.old bytes.new result }
+{
+    let new = *b",\"do\":\"new\",\"game\":\"";
+    let moved = *b",\"do\":\"move\",\"game\":\"";
+    let show = *b",\"do\":\"show\",\"game\":\"";
+    let turn = *b",\"do\":\"turn\",\"game\":\"";
+    let free = *b",\"do\":\"free\",\"game\":\"";
+    let end = *b",\"do\":\"end\",\"game\":\"";
+    match word {
+        Word::New => write(&new, bytes, at),
+        Word::Move => write(&moved, bytes, at),
+        Word::Show => write(&show, bytes, at),
+        Word::Turn => write(&turn, bytes, at),
+        Word::Free => write(&free, bytes, at),
+        Word::End => write(&end, bytes, at),
+    }
+}
+
+/// Writes a charge.
+#[inline(always)]
+fn write_charge(charge: u32, bytes: &mut [u8], at: usize) -> usize
+    requires { at + 20 ≤ length bytes.old }
+    ensures value { Puts at (decimal charge) bytes.old bytes.new result }
+    ensures within { result ≤ at + 20 }
+{
+    write_number(u64::from(charge), bytes, at)
+}
+
+/// Writes a charge, the name of a command, and the text up to the game's name.
+#[inline(always)]
+pub(crate) fn write_answer(word: Word, charge: u32, bytes: &mut [u8], at: usize) -> usize
+    requires { at + 48 ≤ length bytes.old }
+    ensures { Puts at (answer_pieces word charge) bytes.old bytes.new result }
+{
+    let next = write_charge(charge, bytes, at);
+    write_word(word, bytes, next)
+}
+
+/// Writes a command's number, and the text around it.
+#[inline(always)]
+pub(crate) fn write_seq(seq: u64, bytes: &mut [u8], at: usize) -> usize
+    requires { at + 32 ≤ length bytes.old }
+    ensures { Puts at (seq_pieces seq) bytes.old bytes.new result }
+{
+    let name = *b"\",\"seq\":";
+    let end = *b"}";
+    let named = write(&name, bytes, at);
+    let next = write_number(seq, bytes, named);
+    write(&end, bytes, next)
 }
