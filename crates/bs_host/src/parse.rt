@@ -11,6 +11,7 @@ use bs_board::{Command, Version};
 use bs_fiber::SharedCommand;
 use bs_json::{Line, Name, ShortCommand, ShortLine, Stray, read_line, read_short};
 use bs_sched::SharedRow;
+use bs_workers::take_ahead;
 use std::alloc::{AllocError, Global};
 use std::marker::Model;
 use std::sync::atomic::{AtomicU64, Ordering};
@@ -287,6 +288,7 @@ impl<'l, R: Threads + Sync> Parser<'_, 'l, R> {
     fn parse_chunks(&self) -> Result<Vec<ParsedChunk<'l>>, AllocError>
         ensures { IfOk result (λ list. All (λ parsed. IsShare self.now.version self.now.chunks.items parsed.number parsed.share) list.items) }
     {
+        take_ahead(self.alloc);
         let mut list = Vec::new(self.alloc);
         for _ in 0..self.chunks.len() {
             let Some(number) = self.next() else {
@@ -322,14 +324,13 @@ impl<'l, R: Threads + Sync> Parser<'_, 'l, R> {
         }
     }
 
-    /// Parses the chunks on that many new threads. The calling thread starts them all and waits:
-    /// the scheduler may put the first one on its processor, where it would wait for the caller.
+    /// Parses the chunks on that many threads, of which the calling one is the last.
     #[cycle(parsing)]
     fn parse_on(&self, threads: usize) -> Result<Vec<ParsedChunk<'l>>, AllocError>
         ensures { IfOk result (λ list. All (λ parsed. IsShare self.now.version self.now.chunks.items parsed.number parsed.share) list.items) }
     {
-        if threads == 0 {
-            return Ok(Vec::new(self.alloc));
+        if threads <= 1 {
+            return self.parse_chunks();
         }
         let fewer = threads - 1;
         let first = || -> Result<Vec<ParsedChunk>, AllocError>
@@ -385,7 +386,7 @@ impl<'l, R: Threads + Sync> Parser<'_, 'l, R> {
     }
 }
 
-/// Parses the lines of a text by at most `threads` threads: new ones, or the calling thread alone.
+/// Parses the lines of a text on at most `threads` threads, of which the calling one is one.
 /// The lists of the chunks are not joined to one: that would move each line once more.
 #[tactic(auto, using(crate::proofs::ParsedLines::no_share))]
 pub(crate) fn parse_text<'l, R: Threads + Sync>(
@@ -408,6 +409,7 @@ pub(crate) fn parse_text<'l, R: Threads + Sync>(
         next: AtomicU64::new(0),
     };
     if threads > 1 {
+        take_ahead(alloc);
         parser.parse_all(threads, &mut slots)?;
     }
     Ok(parser.in_order(slots)?)

@@ -10,6 +10,7 @@ ghost use Rattle.bs_workers.specs.inner.Stops.{IsStopCause};
 ghost use Rattle.bs_workers.specs.declared.stop.Stop.TheVariants as reason;
 
 use crate::act::only_mover;
+use crate::ahead::take_ahead;
 use crate::boxed::BoxedStay;
 use crate::gate::Gate;
 use crate::player::{Lone, Player, needed};
@@ -239,6 +240,7 @@ impl<R: Threads + Sync, G: Gate> Player<'_, R, G> {
         ensures played { IfOk result (λ ran. All (λ lone. IsPlayedStay CAP self.now.workers self.now.acts.now self.now.stays.now lone.row lone.stay) ran.stays.items) }
         ensures cause { IfErr result (IsStopCause (G.may_refuse self.now.gate.now)) }
     {
+        take_ahead(self.alloc);
         let mut stays = Vec::new(self.alloc);
         let mut blocks = turns.take_share(thread).unwrap_or(Vec::new(self.alloc));
         for _ in 0..turns.rows.len() {

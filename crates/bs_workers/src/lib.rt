@@ -3,6 +3,7 @@
 
 mod acceptable;
 mod act;
+mod ahead;
 mod alone;
 mod apart;
 mod boxed;
@@ -22,6 +23,7 @@ mod together;
 mod turns;
 
 pub use act::Act;
+pub use ahead::take_ahead;
 pub use fault::Run;
 pub use gate::{Gate, OpenGate};
 pub use law::acts_law;
