@@ -12,7 +12,7 @@ use bs_transcript::{TranscriptFault, WriteCalls};
 use bs_workers::Act;
 use std::alloc::Global;
 use std::io::Write;
-use std::thread::{Threads, join};
+use std::thread::{Threads, join, yield_now};
 
 /// A finished core, the acts of its run, and the stray lines of its file.
 #[derive(Drop)]
@@ -20,6 +20,21 @@ pub(crate) struct Played {
     pub(crate) core: Core<BLOCK_BYTES>,
     pub(crate) acts: Vec<Act>,
     pub(crate) strays: Vec<(u64, Stray)>,
+}
+
+/// The number of acts that are freed before other threads may run on the processor.
+const FREED_AT_ONCE: usize = 256;
+
+/// Frees the acts. It yields often, since a thread for which others wait may be on its processor.
+fn free(acts: Vec<Act>) {
+    let mut freed = 0usize;
+    for act in acts {
+        drop(act);
+        freed = freed.wrapping_add(1);
+        if freed % FREED_AT_ONCE == 0 {
+            yield_now();
+        }
+    }
 }
 
 impl Played {
@@ -48,7 +63,7 @@ impl Played {
         }
         let (_, (written, _output)) = join(
             rt,
-            move || drop(acts),
+            move || free(acts),
             move || -> (Result<(), TranscriptFault>, &mut W)
                 ensures written { OnOk result.0 (Appends (W.contents output.entry.now) (W.contents result.1.now) (core_text_of file.entry.core.now file.entry.strays.now)) }
                 ensures left { IfErr result.0 (Leaves W.contents (core_text_of file.entry.core.now file.entry.strays.now) output.entry.now result.1.now) }

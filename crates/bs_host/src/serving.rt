@@ -79,8 +79,9 @@ fn opened_with<'f>(
     Ok((core?, lines?))
 }
 
-/// Opens a core for the plan of a file, while its lines are parsed by other threads. The fault of
-/// opening comes before that of parsing.
+/// Opens a core for the plan of a file on a new thread, while its lines are parsed. That thread is
+/// started first: it may get the processor of the calling one, which parses too, and is soon done.
+/// The fault of opening comes before that of parsing.
 fn open_file<'f, R: Threads + Sync>(
     rt: &R,
     alloc: Global,
@@ -186,10 +187,10 @@ pub fn serve_by<R: Threads + Sync, G: Gate, W: Write, C: WriteCalls<W>>(
 
 /// Serves a command file with `blocks` blocks of memory and `workers` threads: a core answers each
 /// game's commands in the order of their lines, then the transcript is written. If there are
-/// several threads, the calling one starts those that parse and waits for them; one more opens the
-/// core meanwhile, and one more frees the acts while the transcript is rendered. `gate` is
-/// consulted before each job, with the thread's number. After every fault but a writer's the writer
-/// is unchanged, and nothing is allocated once the first byte is written. Returns the core.
+/// several threads, the calling one is among those that parse; one more opens the core meanwhile,
+/// and one more frees the acts while the transcript is rendered. `gate` is consulted before each
+/// job, with the thread's number. After every fault but a writer's the writer is unchanged, and
+/// nothing is allocated once the first byte is written. Returns the core.
 pub fn serve<R: Threads + Sync, G: Gate, W: Write>(
     rt: &R,
     alloc: Global,
