@@ -1,15 +1,26 @@
 //! Memory that a thread takes from the system at once.
 use std::alloc::{AllocError, Global};
 
-/// The number of bytes.
-const AHEAD: usize = 16_777_216;
+/// The number of bytes of a piece. Once one was freed, glibc serves requests up to this size from
+/// heaps; larger ones it still takes from the system one by one.
+const PIECE: usize = 1_048_576;
+
+/// The number of pieces for a thread.
+const PIECES: usize = 8;
 
 /// Has the allocator take memory from the system for the small requests of the calling thread that
-/// follow. glibc gives each thread but the first a heap that grows by as little as a page, each time
-/// by a system call for which the page faults of all threads wait. The first call of a process only
-/// has glibc serve requests of this size from heaps. A page is not used before it is written. If
-/// the system refuses the memory, nothing changes.
+/// follow: it takes pieces, and frees them all. glibc gives each thread but the first a heap that
+/// grows by as little as a page, each time by a system call for which the page faults of all threads
+/// wait. A page is not used before it is written. If the system refuses a piece, there are fewer.
 pub fn take_ahead(alloc: Global) {
-    let room: Result<Vec<u8>, AllocError> = Vec::with_capacity(alloc, AHEAD);
-    drop(room);
+    let mut pieces: Vec<Vec<u8>> = Vec::new(alloc);
+    for _ in 0..PIECES {
+        let piece: Result<Vec<u8>, AllocError> = Vec::with_capacity(alloc, PIECE);
+        let Ok(piece) = piece else {
+            return;
+        };
+        if pieces.push(piece).is_err() {
+            return;
+        }
+    }
 }
